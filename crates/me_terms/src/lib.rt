@@ -1,0 +1,38 @@
+//! The types of the prover: terms, literals, clauses and problems, the entries of a context, and answers.
+//!
+//! Two values of these types are equal in a contract exactly where they are written alike. The
+//! definitions of the calculus over them stand in `specs/`.
+#![tactic(auto)]
+
+mod again;
+mod answer;
+mod atom;
+mod bounds;
+mod clause;
+mod entry;
+mod matching;
+mod measures;
+mod problem;
+mod sequence;
+mod signature;
+mod symbol;
+mod term;
+mod tuple;
+
+pub use again::Again;
+pub use answer::{Answer, Instance, Instances, Next};
+pub use atom::{Atom, Literal, Literals, Pattern};
+pub use bounds::{Bound, Bounds};
+pub use clause::{Clause, Clauses};
+pub use entry::{Entries, Entry, Kind, Reason};
+pub use matching::matches;
+pub use measures::{depth_of, is_ground, weight_of};
+pub use problem::Problem;
+pub use sequence::{Places, Sequence};
+pub use signature::Signature;
+pub use symbol::{Form, Label, Symbol, Text};
+pub use term::{Term, Terms};
+pub use tuple::Tuple;
+
+#[cfg(test)]
+mod tests;

@@ -1,0 +1,93 @@
+//! Matching: whether one atom is an instance of another.
+//!
+//! The value of a variable is what stands where the variable first stands, so no memory is taken.
+ghost use Rattle.std.specs.Prelude.{◌≡◌, ◌&&◌, eqb, ◌↔◌, IsTrue, option_map};
+ghost use Rattle.std.specs.Option.{option_copied};
+ghost use Rattle.me_terms.specs.TermViews.{term_value};
+ghost use Rattle.me_terms.specs.Terms.{arguments_of};
+ghost use Rattle.me_terms.specs.Matchers.{found, found_all, agrees, agree};
+ghost use Rattle.me_terms.specs.Substitutions.{Generalizes};
+ghost use Rattle.me_terms.specs.declared.atom.Pattern.TheVariants as pattern;
+
+use crate::atom::{Atom, Pattern};
+use crate::term::{Term, Terms};
+
+impl Term {
+    /// The part of `special` where this term first has the variable `x`.
+    #[cycle(found)]
+    fn found<'a>(&self, special: &'a Term, x: u32) -> Option<&'a Term>
+        ensures { option_map term_value (option_copied result) ≡ found x (term_value self.now) (term_value special.now) }
+    {
+        match (self, special) {
+            (Term::Var(y), _) => { if *y == x { Some(special) } else { None } }
+            (Term::App { f: _, args }, Term::App { f: _, args: others }) => args.found(others, x),
+            _ => None,
+        }
+    }
+
+    /// Whether each variable of this term has its value among the matched arguments.
+    #[cycle(agrees)]
+    fn agrees(&self, special: &Term, generals: &Terms, specials: &Terms) -> bool
+        ensures { result ≡ agrees (λ x. found_all x (arguments_of generals.now.items) (arguments_of specials.now.items)) (term_value self.now) (term_value special.now) }
+    {
+        match (self, special) {
+            (Term::Var(x), _) => match generals.found(specials, *x) {
+                Some(value) => value.same(special),
+                None => false,
+            },
+            (Term::App { f, args }, Term::App { f: g, args: others }) => {
+                *f == *g && args.agree(others, generals, specials)
+            }
+            _ => false,
+        }
+    }
+}
+
+impl Terms {
+    #[cycle(found)]
+    #[tactic(auto, using(crate::proofs::Matchers::found_all_none, crate::proofs::Matchers::found_all_past))]
+    pub(crate) fn found<'a>(&self, specials: &'a Terms, x: u32) -> Option<&'a Term>
+        ensures { option_map term_value (option_copied result) ≡ found_all x (arguments_of self.now.items) (arguments_of specials.now.items) }
+    {
+        let mine = &self.items;
+        let theirs = &specials.items;
+        for i in 0..mine.len().min(theirs.len()) {
+            let value = mine[i].found(&theirs[i], x);
+            if value.is_some() {
+                return value;
+            }
+        }
+        None
+    }
+
+    #[cycle(agrees)]
+    #[tactic(auto, using(crate::proofs::Matchers::agree_lengths))]
+    pub(crate) fn agree(&self, others: &Terms, generals: &Terms, specials: &Terms) -> bool
+        ensures { result ≡ agree (λ x. found_all x (arguments_of generals.now.items) (arguments_of specials.now.items)) (arguments_of self.now.items) (arguments_of others.now.items) }
+    {
+        if self.len() != others.len() {
+            return false;
+        }
+        let mine = &self.items;
+        let theirs = &others.items;
+        for i in 0..mine.len() {
+            if !mine[i].agrees(&theirs[i], generals, specials) {
+                return false;
+            }
+        }
+        true
+    }
+}
+
+/// Whether some substitution takes the general one to the special one.
+#[tactic(auto, using(crate::proofs::Matchers::matches_iff, crate::proofs::Matchers::preds_differ))]
+pub fn matches(general: &Pattern, special: &Atom) -> bool
+    ensures { IsTrue result ↔ Generalizes general.now (pattern.Of special.now) }
+{
+    match general {
+        Pattern::Any => true,
+        Pattern::Of(atom) => {
+            atom.pred == special.pred && atom.args.agree(&special.args, &atom.args, &special.args)
+        }
+    }
+}

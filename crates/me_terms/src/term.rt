@@ -1,0 +1,196 @@
+//! Terms of first-order logic and their lists of arguments.
+//!
+//! A contract sees a term as a mathematical tree, and a list of arguments as a list of such trees beside
+//! the room that is left. Equality is that of the trees.
+ghost use Rattle.std.specs.Prelude.{◌≡◌, ◌==◌, ◌+◌, ◌<◌, ◌≤◌, [], ◌∷◌, ◌++◌, length, map, slice_get, option_map, ◌↔◌, IsSome, IsOk, OnOk, OnErr, IfOk, IfErr};
+ghost use Rattle.std.specs.Option.{option_copied};
+ghost use Rattle.me_terms.specs.TermViews.{term_value};
+ghost use Rattle.me_terms.specs.Terms.{arguments_of};
+ghost use Rattle.me_terms.specs.TermEquality.{same_term, same_arguments};
+
+use std::alloc::{AllocError, Global};
+use std::marker::Model;
+
+/// A variable by its number, or a function by its number with its arguments.
+#[cycle(term)]
+#[derive(Drop)]
+pub enum Term {
+    Var(u32),
+    App { f: u32, args: Terms },
+}
+
+/// The arguments of a function or a predicate.
+#[cycle(term)]
+#[derive(Drop)]
+pub struct Terms {
+    pub(crate) items: Vec<Term>,
+}
+
+impl Model for Terms {
+    ghost use Rattle.me_terms.specs.Terms.{TermValue, term_code, heights, arguments_of};
+    ghost use Rattle.me_terms.specs.Sequences.{SequenceValue, sequence_code};
+
+    ghost Value = { SequenceValue TermValue };
+
+    ghost coded = { sequence_code term_code };
+
+    ghost use Rattle.me_terms.specs.TermViews.{terms_value};
+
+    ghost view = { λ s. terms_value s.items };
+
+    ghost size = { λ h. heights (arguments_of h.items) };
+
+    ghost use Rattle.me_terms.specs.TermSize.{falls};
+
+    ghost size_decreases = { λ s h. falls s };
+}
+
+impl Terms {
+    /// An empty list, which takes no memory. Later calls that need some take it from `alloc`.
+    pub fn new(alloc: Global) -> Self
+        ensures { result.items ≡ [] }
+    {
+        Terms {
+            items: Vec::new(alloc),
+        }
+    }
+
+    /// The number of terms.
+    pub fn len(&self) -> u64
+        ensures { result ≡ length self.now.items }
+    {
+        self.items.len() as u64
+    }
+
+    pub fn is_empty(&self) -> bool
+        ensures { result ≡ (length self.now.items == 0) }
+    {
+        self.items.is_empty()
+    }
+
+    /// The terms in order.
+    pub fn as_slice(&self) -> &[Term]
+        ensures { map term_value result.now ≡ self.now.items }
+    {
+        self.items.as_slice()
+    }
+
+    /// The term at place `k`, from 0.
+    pub fn get(&self, k: u64) -> Option<&Term>
+        ensures item { option_map term_value (option_copied result) ≡ slice_get self.now.items k }
+        ensures found { IsSome result ↔ (k < length self.now.items) }
+    {
+        self.items.get(k as usize)
+    }
+
+    /// Makes room for `n` further terms, or changes nothing where memory is out.
+    pub fn reserve(&mut self, n: u64) -> Result<(), AllocError>
+        ensures items { self.new.items ≡ self.old.items }
+        ensures ok { OnOk result (n ≤ self.new.spare) }
+        ensures kept { self.old.spare ≤ self.new.spare }
+        ensures succeeds { n ≤ self.old.spare → IsOk result }
+        ensures err { OnErr result (self.new ≡ self.old) }
+    {
+        self.items.reserve(n as usize)
+    }
+
+    /// Puts a term at the end, or hands it back where memory is out.
+    pub fn push(&mut self, item: Term) -> Result<(), Term>
+        ensures ok { OnOk result (self.new.items ≡ self.old.items ++ term_value item ∷ []) }
+        ensures err { OnErr result (self.new ≡ self.old) }
+        ensures back { IfErr result (λ back. back ≡ item) }
+        ensures room { 0 < self.old.spare → IsOk result × (self.new.spare + 1 ≡ self.old.spare) }
+    {
+        if self.items.len() == self.items.capacity() && self.items.reserve(1).is_err() {
+            return Err(item);
+        }
+        self.items.push_reserved(item);
+        Ok(())
+    }
+}
+
+impl Term {
+    /// Whether two terms are written alike.
+    #[cycle(same)]
+    pub(crate) fn same(&self, other: &Term) -> bool
+        ensures { result ≡ same_term (term_value self.now) (term_value other.now) }
+    {
+        match (self, other) {
+            (Term::Var(x), Term::Var(y)) => *x == *y,
+            (Term::App { f, args: mine }, Term::App { f: g, args: theirs }) => {
+                *f == *g && mine.same(theirs)
+            }
+            _ => false,
+        }
+    }
+
+    /// An equal term.
+    #[cycle(again)]
+    pub fn again(&self, alloc: Global) -> Result<Term, AllocError>
+        ensures { IfOk result (λ copy. term_value copy ≡ term_value self.now) }
+    {
+        match self {
+            Term::Var(x) => Ok(Term::Var(*x)),
+            Term::App { f, args } => Ok(Term::App {
+                f: *f,
+                args: args.again(alloc)?,
+            }),
+        }
+    }
+}
+
+impl Terms {
+    /// Whether two lists have terms that are written alike, in order.
+    #[cycle(same)]
+    #[tactic(auto, using(crate::specs::TermEqualityLaws::same_arguments_lengths))]
+    pub(crate) fn same(&self, other: &Terms) -> bool
+        ensures { result ≡ same_arguments (arguments_of self.now.items) (arguments_of other.now.items) }
+    {
+        if self.len() != other.len() {
+            return false;
+        }
+        let mine = &self.items;
+        let theirs = &other.items;
+        for i in 0..mine.len() {
+            if !mine[i].same(&theirs[i]) {
+                return false;
+            }
+        }
+        true
+    }
+
+    /// An equal list.
+    #[cycle(again)]
+    pub fn again(&self, alloc: Global) -> Result<Terms, AllocError>
+        ensures { IfOk result (λ copy. copy.items ≡ self.now.items) }
+    {
+        let mut copy = Terms::new(alloc);
+        for item in &self.items {
+            let item = item.again(alloc)?;
+            if copy.push(item).is_err() {
+                return Err(AllocError);
+            }
+        }
+        Ok(copy)
+    }
+}
+
+impl PartialEq for Term {
+    ghost use Rattle.std.specs.Cmp.{on_per, partial_equiv_from_equiv};
+    ghost use Rattle.me_terms.specs.TermEqualityLaws.{term_laws};
+
+    ghost eq = { λ s t. same_term (term_value s) (term_value t) };
+
+    ghost laws = { on_per term_value (partial_equiv_from_equiv term_laws) };
+
+    fn eq(&self, other: &Self) -> bool {
+        self.same(other)
+    }
+}
+
+impl Eq for Term {
+    ghost use Rattle.std.specs.Cmp.{on_equiv};
+    ghost use Rattle.me_terms.specs.TermEqualityLaws.{term_laws};
+
+    ghost laws = { on_equiv term_value term_laws };
+}
