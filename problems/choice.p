@@ -1,0 +1,1 @@
+cnf(one_of_them, axiom, p | q).

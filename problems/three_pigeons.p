@@ -1,0 +1,9 @@
+cnf(first_sits, axiom, first_left | first_right).
+cnf(second_sits, axiom, second_left | second_right).
+cnf(third_sits, axiom, third_left | third_right).
+cnf(left_is_narrow, axiom, ~first_left | ~second_left).
+cnf(left_is_narrow_too, axiom, ~first_left | ~third_left).
+cnf(left_is_narrow_as_well, axiom, ~second_left | ~third_left).
+cnf(right_is_narrow, axiom, ~first_right | ~second_right).
+cnf(right_is_narrow_too, axiom, ~first_right | ~third_right).
+cnf(right_is_narrow_as_well, axiom, ~second_right | ~third_right).
