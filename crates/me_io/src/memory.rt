@@ -53,15 +53,18 @@ impl Source for MemSource {
 
     fn read(&mut self, buf: &mut [u8]) -> Result<usize, Failed>
         ensures bound { ReadsAtMost result buf.new }
-        ensures bytes { ReadConsumes (Some self.old.stock.left) (Some self.new.stock.left) result buf.new }
-        ensures count { MatchResult result (λ n. self.new.stock.given ≡ self.old.stock.given + n) (λ _. self.new.stock.given ≡ self.old.stock.given) }
+        ensures bytes { ReadConsumes (Some self.old.stock.left) (Some self.new.stock.left)
+            result buf.new }
+        ensures count { MatchResult result (λ n. self.new.stock.given ≡ self.old.stock.given + n)
+            (λ _. self.new.stock.given ≡ self.old.stock.given) }
         ensures end { IfOk result (λ n. n ≡ 0 → 0 < length buf.new → self.new.stock.left ≡ []) }
         ensures later { self.old.plan.faults ≤ self.new.plan.faults }
         ensures fault { OnErr result (Rose self.old.plan.faults self.new.plan.faults) }
 
         // Exactly the planned calls fail, and each other one gives as much as it can.
         ensures planned { IsErr result ↔ Contains self.old.plan.fails (one_more self.old.plan.calls) }
-        ensures most { IfOk result (λ n. n ≡ min (min (length buf.old) self.old.stock.piece) (length self.old.stock.left)) }
+        ensures most { IfOk result (λ n.
+            n ≡ min (min (length buf.old) self.old.stock.piece) (length self.old.stock.left)) }
         ensures calls { self.new.plan.calls ≡ one_more self.old.plan.calls }
         ensures same_plan { self.new.plan.fails ≡ self.old.plan.fails }
         ensures same_piece { self.new.stock.piece ≡ self.old.stock.piece }

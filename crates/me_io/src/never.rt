@@ -49,7 +49,8 @@ impl Source for NeverSource {
         ensures count { IfOk result (λ n. self.new.given ≡ self.old.given + n) }
         ensures end { IfOk result (λ n. n ≡ 0 → 0 < length buf.new → self.new.left ≡ []) }
         ensures never_fails { IsOk result }
-        ensures most { IfOk result (λ n. n ≡ min (min (length buf.old) self.old.piece) (length self.old.left)) }
+        ensures most { IfOk result (λ n.
+            n ≡ min (min (length buf.old) self.old.piece) (length self.old.left)) }
         ensures same_piece { self.new.piece ≡ self.old.piece }
     {
         Ok(self.supply.hand_out(buf))

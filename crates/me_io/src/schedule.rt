@@ -40,7 +40,10 @@ impl Schedule {
     pub(crate) fn call(&mut self) -> Result<(), Failed>
         ensures planned { IsErr result ↔ Contains self.old.fails (one_more self.old.calls) }
         ensures ok { OnOk result (self.new ≡ record self.old { calls = one_more self.old.calls }) }
-        ensures err { OnErr result (self.new ≡ record self.old { calls = one_more self.old.calls; faults = one_more self.old.faults }) }
+        ensures err { OnErr result (self.new ≡ record self.old {
+          calls = one_more self.old.calls;
+          faults = one_more self.old.faults;
+        }) }
         ensures later { self.old.faults ≤ self.new.faults }
     {
         self.calls = self.calls.saturating_add(1);

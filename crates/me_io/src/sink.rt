@@ -38,7 +38,8 @@ pub enum WriteError {
 /// Appends all the bytes to the sink. It returns, since each turn writes at least one byte.
 pub fn write_all<K: Sink>(sink: &mut K, bytes: &[u8]) -> Result<(), WriteError>
     ensures all { OnOk result (Appends (K.written sink.old) (K.written sink.new) bytes.now) }
-    ensures front { IfErr result (λ e. AppendedFront (K.written sink.old) (K.written sink.new) (written_before e) bytes.now) }
+    ensures front { IfErr result (λ e.
+        AppendedFront (K.written sink.old) (K.written sink.new) (written_before e) bytes.now) }
     ensures later { K.faults sink.old ≤ K.faults sink.new }
     ensures fault { OnErr result (Rose (K.faults sink.old) (K.faults sink.new)) }
 {

@@ -24,7 +24,7 @@ pub trait Source {
     /// How many bytes were given so far.
     ghost given: { Self → ℕ };
 
-    /// Whether a call has found the end of input.
+    /// That the end of input was reached.
     ghost ended: { Self → Type 0 };
 
     /// How many calls failed so far. It never falls, and may stop at the last number of a u64.
@@ -35,7 +35,8 @@ pub trait Source {
     fn read(&mut self, buf: &mut [u8]) -> Result<usize, Failed>
         ensures bound { ReadsAtMost result buf.new }
         ensures bytes { ReadConsumes (left self.old) (left self.new) result buf.new }
-        ensures count { MatchResult result (λ n. given self.new ≡ given self.old + n) (λ _. given self.new ≡ given self.old) }
+        ensures count { MatchResult result (λ n. given self.new ≡ given self.old + n)
+            (λ _. given self.new ≡ given self.old) }
         ensures end { IfOk result (λ n. n ≡ 0 → 0 < length buf.new → ended self.new) }
         ensures later { faults self.old ≤ faults self.new }
         ensures fault { OnErr result (Rose (faults self.old) (faults self.new)) };
@@ -65,14 +66,18 @@ pub fn read_all<S: Source>(alloc: Global, source: &mut S) -> Result<Vec<u8>, Rea
     ensures size { IfOk result (λ v. length v.items ≤ MAX_BYTES) }
 
     ensures later { S.faults source.old ≤ S.faults source.new }
-    ensures fault { IsErrOf result ReadError.Fault → Rose (S.faults source.old) (S.faults source.new) }
+    ensures fault { IsErrOf result ReadError.Fault →
+        Rose (S.faults source.old) (S.faults source.new) }
 
     // Exactly where the byte after the first MAX_BYTES was read.
-    ensures too_long { IsErrOf result ReadError.TooLong ↔ (S.given source.old + MAX_BYTES < S.given source.new) }
-    ensures told_too_long { IsErrOf result ReadError.TooLong → IfSome (S.left source.old) (λ bytes. MAX_BYTES < length bytes) }
+    ensures too_long { IsErrOf result ReadError.TooLong ↔
+        (S.given source.old + MAX_BYTES < S.given source.new) }
+    ensures told_too_long { IsErrOf result ReadError.TooLong →
+        IfSome (S.left source.old) (λ bytes. MAX_BYTES < length bytes) }
 
     // Whatever the answer, no byte was given up out of order.
-    ensures front { GaveFront (S.left source.old) (S.left source.new) (S.given source.old) (S.given source.new) }
+    ensures front { GaveFront (S.left source.old) (S.left source.new)
+        (S.given source.old) (S.given source.new) }
 {
     let mut bytes = Vec::new(alloc);
     let mut buffer = [0u8; BUFFER_BYTES];

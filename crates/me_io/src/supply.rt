@@ -18,7 +18,11 @@ impl Model for Supply {
 
     ghost Value = { Stock };
 
-    ghost view = { λ s. record { left = drop s.position s.bytes.items; given = s.position; piece = s.piece } };
+    ghost view = { λ s. record {
+      left = drop s.position s.bytes.items;
+      given = s.position;
+      piece = s.piece;
+    } };
 
     ghost invariant = { λ s. (s.position ≤ length s.bytes.items) × (0 < s.piece) };
 }
