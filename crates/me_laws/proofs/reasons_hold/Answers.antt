@@ -1,0 +1,6 @@
+use Rattle.std.proofs.Common.{refl}
+use Rattle.me_laws.proofs.Reasons.{reasons_hold}
+use Rattle.me_laws.proofs.reasons_hold.Goals as goal
+
+pub returns : goal.returns
+returns c = λ problem bounds positive before later e h. reasons_hold h before later e refl

@@ -1,0 +1,5 @@
+pub mod ContextLaws
+pub mod GrownLaws
+pub mod SearchLaws
+pub mod TermLaws
+pub mod UnifierLaws

@@ -1,0 +1,15 @@
+-- Laws of context unifiers.
+use Rattle.std.specs.Prelude.{ℕ, List, Option}
+use Rattle.me_terms.specs.Substitutions.{Family}
+use Rattle.me_terms.specs.Context.{Context}
+use Rattle.me_terms.specs.Unifier.{Solves, IsUnifier}
+use Rattle.me_terms.specs.Productive.{IsProductive}
+use Rattle.me_terms.specs.declared.atom.Literal.{Literal}
+
+-- What has a solution has a most general unifier.
+abbrev pub UnifiersExist : Type 0
+UnifiersExist = (context : Context) (literals : List Literal) (positions : List (Option ℕ)) (v : Family) → Solves context literals positions v → (u : Family) × IsUnifier context literals positions u
+
+-- Where the entries produce the complements of the literals under some solution, a most general unifier is productive.
+abbrev pub ProductionLifts : Type 0
+ProductionLifts = (context : Context) (literals : List Literal) (positions : List (Option ℕ)) (u v : Family) → IsUnifier context literals positions u → Solves context literals positions v → IsProductive context literals positions v → IsProductive context literals positions u
