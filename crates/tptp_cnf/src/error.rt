@@ -1,6 +1,7 @@
 //! Why a file is refused.
 //!
 //! A refusal names its cause, and the place of the refused token: its offset in the file, from 0.
+use std::alloc::AllocError;
 use thiserror::Error;
 
 /// What a file asks for that lies outside of the profile.
@@ -46,4 +47,15 @@ pub enum CnfError {
     /// Memory is out.
     #[error("out of memory")]
     Memory,
+}
+
+impl From<AllocError> for CnfError {
+    ghost use Rattle.std.specs.Prelude.{◌≡◌};
+    ghost use Rattle.tptp_cnf.specs.declared.error.CnfError.TheVariants.{Memory};
+
+    ghost from_gives = { λ _ e. e ≡ Memory };
+
+    fn from(_: AllocError) -> Self {
+        CnfError::Memory
+    }
 }

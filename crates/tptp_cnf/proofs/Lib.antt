@@ -1,0 +1,9 @@
+pub mod Complete
+pub mod Determined
+pub mod Drafts
+pub mod Longest
+pub mod OneCut
+pub mod Printed
+pub mod Reached
+pub mod Room
+pub mod Valid
