@@ -8,7 +8,7 @@ ghost use Rattle.me_laws.specs.ContextLaws.{AddKeepsConsistency, ClashIsSymmetri
 ghost use Rattle.me_laws.specs.GrownLaws.{GrownIsConsistent, ReasonsHold, SplitIsApart};
 ghost use Rattle.me_laws.specs.SearchLaws.{AnswerIsDetermined, ExhaustedIsModel, LeafListIsDetermined, NextIsDetermined, OutcomeIsDetermined, SatisfiableIsModel};
 ghost use Rattle.me_laws.specs.TermLaws.{GeneralityIsOrder, VariantsAreAlike};
-ghost use Rattle.me_laws.specs.UnifierLaws.{ProductionLifts, UnifiersExist};
+ghost use Rattle.me_laws.specs.UnifierLaws.{ProductionLifts, UnifiersAgree, UnifiersExist};
 
 /// Being at least as general is reflexive and transitive.
 pub fn generality_is_order()
@@ -38,6 +38,11 @@ pub fn context_is_total()
 /// What has a solution has a most general unifier.
 pub fn unifiers_exist()
     ensures { UnifiersExist }
+{}
+
+/// Most general unifiers of the same places share their remainder and their literals' canonical forms.
+pub fn unifiers_agree()
+    ensures { UnifiersAgree }
 {}
 
 /// Production lifts from a solution to a most general unifier.

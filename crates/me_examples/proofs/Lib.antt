@@ -1,0 +1,9 @@
+pub mod AssertThenSplit
+pub mod ContradictionCases
+pub mod FirstList
+pub mod FirstRunAnswer
+pub mod HiddenEntry
+pub mod MergedVariables
+pub mod Short
+pub mod SmallAnswers
+pub mod TruthOfAtoms

@@ -1,0 +1,49 @@
+-- What exists: solutions, next steps, outcomes and answers, or a proof that there is none.
+use Rattle.std.specs.Prelude.{◌≡◌, ℕ, ◌⊎◌, Bool, List, Option}
+use Rattle.me_terms.specs.Substitutions.{Family}
+use Rattle.me_terms.specs.Values.{ProblemValue, EntryValue, InstanceValue}
+use Rattle.me_terms.specs.Context.{Context}
+use Rattle.me_terms.specs.Unifier.{Solves}
+use Rattle.me_terms.specs.Next.{NextValue, IsNext}
+use Rattle.me_terms.specs.Close.{IsClose, HasClose}
+use Rattle.me_terms.specs.Assert.{HasAssert}
+use Rattle.me_terms.specs.Split.{HasSplit}
+use Rattle.me_terms.specs.Productive.{HasProductive}
+use Rattle.me_terms.specs.Order.{IsLeastClose, IsLeastAssert, IsLeastSplit}
+use Rattle.me_terms.specs.LeafList.{IsLeafList}
+use Rattle.me_terms.specs.Grown.{IsGrown}
+use Rattle.me_terms.specs.Outcome.{TreeOutcome, HasOutcome}
+use Rattle.me_terms.specs.Answer.{AnswerValue, IsAnswer}
+use Rattle.me_terms.specs.declared.bounds.Bounds.{Bounds}
+use Rattle.me_terms.specs.declared.atom.Literal.{Literal}
+
+-- A solution of a clause's equations with entries at given positions, or none is.
+abbrev pub SolvabilityIsDecided : Type 0
+SolvabilityIsDecided =
+    (context : Context) (literals : List Literal) (positions : List (Option ℕ)) → ((family : Family) × Solves context literals positions family) ⊎ (¬ ((family : Family) × Solves context literals positions family))
+
+-- A context has a least candidate of each kind, or none of that kind; and it has a productive unifier, or none.
+pub record HasLeastCandidates (problem : ProblemValue) (bounds : Bounds) (context : Context) : Type 0 where
+  pub close : ((c : ℕ) × (tuple : List ℕ) × IsLeastClose problem context c tuple) ⊎ (¬ HasClose problem context)
+  pub assert : ((e : EntryValue) × IsLeastAssert problem bounds context e) ⊎ (¬ HasAssert problem bounds context)
+  pub split : ((l : Literal) × IsLeastSplit problem bounds context l) ⊎ (¬ HasSplit problem bounds context)
+  pub productive : HasProductive problem context ⊎ (¬ HasProductive problem context)
+
+abbrev pub CandidatesAreDecided : Type 0
+CandidatesAreDecided = (problem : ProblemValue) (bounds : Bounds) (context : Context) → HasLeastCandidates problem bounds context
+
+-- A context has a next step.
+abbrev pub NextExists : Type 0
+NextExists = (problem : ProblemValue) (bounds : Bounds) (context : Context) → (step : NextValue) × IsNext problem bounds context step
+
+-- Where a clause and a tuple close a grown context, the leaf has a list.
+abbrev pub LeafListExists : Type 0
+LeafListExists = (problem : ProblemValue) (bounds : Bounds) (positive : Bool) (context : Context) (c : ℕ) (tuple : List ℕ) → IsGrown problem bounds positive context → IsClose problem context c tuple → (list : List InstanceValue) × IsLeafList problem context c tuple list
+
+-- The tree of a grown context has an outcome.
+abbrev pub OutcomeExists : Type 0
+OutcomeExists = (problem : ProblemValue) (bounds : Bounds) (positive : Bool) (context : Context) → IsGrown problem bounds positive context → (outcome : TreeOutcome) × HasOutcome problem bounds context outcome
+
+-- A problem has exactly one answer, whatever the bounds and the sign of the start.
+abbrev pub ExactlyOneAnswer : Type 0
+ExactlyOneAnswer = (problem : ProblemValue) (bounds : Bounds) (positive : Bool) → (reply : AnswerValue) × IsAnswer problem bounds positive reply × ((other : AnswerValue) → IsAnswer problem bounds positive other → other ≡ reply)

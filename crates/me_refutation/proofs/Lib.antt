@@ -1,0 +1,16 @@
+pub mod Joined
+pub mod Known
+pub mod UnifierKnown
+pub mod GroundTerms
+pub mod Sound
+pub mod NoRemainder
+pub mod Demands
+pub mod Constants
+pub mod AssertedKind
+pub mod Asked
+pub mod Places
+pub mod Splits
+pub mod Truth
+pub mod Leaf
+pub mod Refuted
+pub mod Answered
