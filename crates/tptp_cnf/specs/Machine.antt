@@ -1,4 +1,4 @@
--- The machine that reads the tokens of a file, one by one.
+-- The machine that reads the tokens of a file, one by one. Only the private calls of the reader speak of it.
 use Rattle.std.specs.Prelude.{ℕ, ◌+◌, Bool, true, false, ◌&&◌, nat_le, nat_lt, List, [], ◌∷◌, ◌++◌, length, Option, Some, None, codes, if◌then◌else◌}
 use Rattle.std.specs.Str.{bytes_eq}
 use Rattle.me_terms.specs.Signatures.{with_symbol, number_of}
