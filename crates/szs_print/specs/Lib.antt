@@ -1,0 +1,10 @@
+pub mod AnswerText
+pub mod ClauseText
+pub mod Hiding
+pub mod LabelText
+pub mod ModelText
+pub mod Pieces
+pub mod Printable
+pub mod RefusalText
+pub mod RefutationText
+pub mod StatusText

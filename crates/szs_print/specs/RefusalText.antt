@@ -1,0 +1,67 @@
+-- The text of a refusal.
+use Rattle.std.specs.Prelude.{ℕ, List, [], ◌++◌, codes, decimal, Option, Some, None}
+use Rattle.tptp_cnf.specs.declared.error.What.{What}
+use Rattle.tptp_cnf.specs.declared.error.What.TheVariants.{Equality, Language, Include, Number, Defined, Conjecture, Role}
+use Rattle.tptp_cnf.specs.declared.error.Which.{Which}
+use Rattle.tptp_cnf.specs.declared.error.Which.TheVariants.{Clauses, Literals, Variables, Arguments, Nesting}
+use Rattle.szs_print.specs.StatusText.{status_line, reason_line}
+use Rattle.szs_print.specs.declared.refusal.Refusal.{Refusal}
+use Rattle.szs_print.specs.declared.refusal.Refusal.TheVariants.{Usage, NotYet, Syntax, Inappropriate, Limit, Length, Read, Memory}
+
+-- The SZS word of a refusal.
+abbrev pub word_text : Refusal → List ℕ
+word_text Usage = codes "UsageError"
+word_text NotYet = codes "Inappropriate"
+word_text (Syntax at) = codes "SyntaxError"
+word_text (Inappropriate what at) = codes "Inappropriate"
+word_text (Limit which at) = codes "ResourceOut"
+word_text Length = codes "ResourceOut"
+word_text Read = codes "OSError"
+word_text Memory = codes "MemoryOut"
+
+abbrev pub what_text : What → List ℕ
+what_text Equality = codes "equality"
+what_text Language = codes "language"
+what_text Include = codes "include"
+what_text Number = codes "number"
+what_text Defined = codes "defined"
+what_text Conjecture = codes "conjecture"
+what_text Role = codes "role"
+
+abbrev pub which_text : Which → List ℕ
+which_text Clauses = codes "limit clauses"
+which_text Literals = codes "limit literals"
+which_text Variables = codes "limit variables"
+which_text Arguments = codes "limit arguments"
+which_text Nesting = codes "limit nesting"
+
+-- The cause of a refusal.
+abbrev pub cause_text : Refusal → List ℕ
+cause_text Usage = codes "words"
+cause_text NotYet = codes "notyet"
+cause_text (Syntax at) = codes "syntax"
+cause_text (Inappropriate what at) = what_text what
+cause_text (Limit which at) = which_text which
+cause_text Length = codes "limit length"
+cause_text Read = codes "read"
+cause_text Memory = codes "memory"
+
+-- The place that a refusal names.
+abbrev pub place_of : Refusal → Option ℕ
+place_of Usage = None
+place_of NotYet = None
+place_of (Syntax at) = Some at
+place_of (Inappropriate what at) = Some at
+place_of (Limit which at) = Some at
+place_of Length = Some 67_108_864
+place_of Read = None
+place_of Memory = None
+
+abbrev pub place_text : Option ℕ → List ℕ
+place_text None = []
+place_text (Some at) = codes " at " ++ decimal at
+
+-- Two lines: the status, and the reason with the place where there is one.
+abbrev pub refusal_text : List ℕ → Refusal → List ℕ
+refusal_text name refusal =
+    status_line (word_text refusal) name ++ reason_line (cause_text refusal ++ place_text (place_of refusal))
