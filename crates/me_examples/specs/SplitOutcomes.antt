@@ -1,5 +1,5 @@
 -- The outcome of a node, from its left and its right tree's; and what is answered by a list at the list bound and beyond it.
-use Rattle.std.specs.Prelude.{◌≡◌, List, [], ◌∷◌}
+use Rattle.std.specs.Prelude.{◌≡◌, ℕ, true, false, List, [], ◌∷◌}
 use Rattle.me_terms.specs.Values.{InstanceValue}
 use Rattle.me_terms.specs.Context.{Context}
 use Rattle.me_terms.specs.FirstOccurrences.{first_occurrences, joined}
@@ -7,7 +7,6 @@ use Rattle.me_terms.specs.Outcome.{Closed, Sat, Met, both}
 use Rattle.me_terms.specs.Answer.{answer_of, Unsatisfiable, GaveUp}
 use Rattle.me_terms.specs.declared.bounds.Bound.TheVariants as bound
 use Rattle.me_terms.specs.declared.bounds.Bounds.{Bounds}
-use Rattle.std.specs.Prelude.{ℕ, true, false}
 use Rattle.me_examples.specs.Letters.{a, p_of, literal}
 use Rattle.me_examples.specs.FirstRun.{first_list}
 
