@@ -1,9 +1,15 @@
 pub mod AssertThenSplit
+pub mod BoundByFirstPlace
 pub mod ContradictionCases
 pub mod FirstList
 pub mod FirstRunAnswer
+pub mod GroundLists
 pub mod HiddenEntry
 pub mod MergedVariables
+pub mod OrderOfCandidates
+pub mod QueueOrder
+pub mod SharpeningCases
 pub mod Short
 pub mod SmallAnswers
+pub mod SplitOutcomes
 pub mod TruthOfAtoms

@@ -1,8 +1,14 @@
 pub mod AssertThenSplit
+pub mod BoundByFirstPlace
 pub mod Contradictions
 pub mod FirstRun
+pub mod GroundLists
 pub mod HiddenEntry
 pub mod Letters
 pub mod MergedVariables
+pub mod OrderOfCandidates
+pub mod QueueOrder
+pub mod Sharpening
 pub mod SmallAnswers
+pub mod SplitOutcomes
 pub mod TruthOfAtoms

@@ -4,11 +4,17 @@
 #![tactic(auto)]
 
 ghost use Rattle.me_examples.specs.AssertThenSplit.{AssertsThenSplits};
+ghost use Rattle.me_examples.specs.BoundByFirstPlace.{BoundByFirstPlace};
 ghost use Rattle.me_examples.specs.Contradictions.{Contradictions};
 ghost use Rattle.me_examples.specs.FirstRun.{FirstRun};
+ghost use Rattle.me_examples.specs.GroundLists.{GroundLists};
 ghost use Rattle.me_examples.specs.HiddenEntry.{LaterEntryHides};
 ghost use Rattle.me_examples.specs.MergedVariables.{MergedVariablesClose};
+ghost use Rattle.me_examples.specs.OrderOfCandidates.{OrderOfCandidates};
+ghost use Rattle.me_examples.specs.QueueOrder.{QueueOrder};
+ghost use Rattle.me_examples.specs.Sharpening.{Sharpening};
 ghost use Rattle.me_examples.specs.SmallAnswers.{SmallAnswers};
+ghost use Rattle.me_examples.specs.SplitOutcomes.{OutcomesAreJoined};
 ghost use Rattle.me_examples.specs.TruthOfAtoms.{TruthOfAtoms};
 
 /// What the context of ~v, parametric p(a,X0) and universal ~p(X0,b) produces.
@@ -44,4 +50,34 @@ pub fn small_answers()
 /// The clauses p and ~p are unsatisfiable, by the list of their instances.
 pub fn first_run()
     ensures { FirstRun }
+{}
+
+/// Which of two candidates comes before the other.
+pub fn order_of_candidates()
+    ensures { OrderOfCandidates }
+{}
+
+/// The outcome of a node, and the list of one.
+pub fn outcomes_are_joined()
+    ensures { OutcomesAreJoined }
+{}
+
+/// Which literals are ground instances, and which lists are refuted.
+pub fn ground_lists()
+    ensures { GroundLists }
+{}
+
+/// A leaf lists its instances in the order of a queue.
+pub fn queue_order()
+    ensures { QueueOrder }
+{}
+
+/// A Universal literal may be asserted beside a Parametric one, and not the other way round.
+pub fn sharpening()
+    ensures { Sharpening }
+{}
+
+/// The first literal of the remainder says which bound was met.
+pub fn bound_by_first_place()
+    ensures { BoundByFirstPlace }
 {}
