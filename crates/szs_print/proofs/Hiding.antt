@@ -1,13 +1,13 @@
 -- An entry is hidden exactly where one of those after it covers it.
-use Rattle.std.proofs.Common.{◌≡◌, ℕ, ◌+◌, ◌-◌, ◌<◌, ◌≤◌, List, [], ◌++◌, length, take, drop, get_or, slice_get, Some, IsTrue, Bool, true, false, refl, sym, ap, subst, ◌∙◌, arith, length-drop}
-use Rattle.std.proofs.lemmas.List.{take_all, get_or-drop, append-nil}
-use Rattle.std.proofs.lemmas.Option.{slice_get_within, get_or_from_slice_get, slice_get_read, slice_get-get_or}
+use Rattle.std.proofs.Common.{◌≡◌, ℕ, ◌+◌, ◌-◌, ◌<◌, [], length, take, drop, get_or, slice_get, Some, Bool, refl, sym, ap, subst, ◌∙◌, arith, length-drop}
+use Rattle.std.proofs.lemmas.List.{take_all, get_or-drop}
+use Rattle.std.proofs.lemmas.Option.{slice_get_within, get_or_from_slice_get, slice_get_read}
 use Rattle.me_terms.specs.Terms.{AtomValue}
 use Rattle.me_terms.specs.Substitutions.{Generalizes}
 use Rattle.me_terms.specs.Values.{EntryValue, SignatureValue}
-use Rattle.me_terms.specs.Context.{Context, StandsAt, IsHidden, IsVisible, Hides}
+use Rattle.me_terms.specs.Context.{Context, StandsAt, IsHidden}
 use Rattle.me_terms.specs.declared.atom.Pattern.{Pattern}
-use Rattle.me_terms.specs.declared.atom.Pattern.TheVariants.{Any, Of}
+use Rattle.me_terms.specs.declared.atom.Pattern.TheVariants.{Of}
 use Rattle.szs_print.specs.Hiding.{Covers}
 use Rattle.szs_print.specs.ModelText.{IsTextAt, shown, hidden, literal_line}
 

@@ -1,11 +1,10 @@
 -- The text of a model, which is given by the context that induces it.
-use Rattle.std.specs.Prelude.{◌≡◌, ℕ, zero, suc, ◌+◌, Bool, List, [], ◌∷◌, ◌++◌, codes, decimal, length, if◌then◌else◌}
+use Rattle.std.specs.Prelude.{◌≡◌, ℕ, zero, suc, Bool, List, [], ◌∷◌, ◌++◌, codes, decimal, length, if◌then◌else◌}
 use Rattle.me_terms.specs.Terms.{AtomValue}
 use Rattle.me_terms.specs.Values.{SignatureValue, EntryValue}
 use Rattle.me_terms.specs.Context.{Context, StandsAt, IsHidden, IsVisible}
 use Rattle.me_terms.specs.declared.entry.Kind.{Kind}
 use Rattle.me_terms.specs.declared.entry.Kind.TheVariants.{Universal, Parametric}
-use Rattle.me_terms.specs.declared.atom.Pattern.{Pattern}
 use Rattle.me_terms.specs.declared.atom.Pattern.TheVariants.{Any, Of}
 use Rattle.szs_print.specs.ClauseText.{literal_text}
 use Rattle.szs_print.specs.StatusText.{status_line, output_line}

@@ -4,8 +4,8 @@ use crate::refutation::print_refutation;
 use crate::{Refusal, print_answer, write_refusal};
 use me_io::{MemSink, WriteError};
 use me_terms::{
-    Answer, Atom, Bound, Clause, Entry, Form, Instance, Kind, Label, Literal, Pattern, Problem,
-    Reason, Sequence, Signature, Symbol, Term, Terms, Text,
+    Answer, Atom, Bound, Clause, Entries, Entry, Form, Instance, Instances, Kind, Label, Literal,
+    Pattern, Problem, Reason, Sequence, Signature, Symbol, Term, Terms, Text,
 };
 use std::alloc::Global;
 use std::test::Fail;
@@ -72,32 +72,30 @@ fn unit(alloc: Global, number: u32, name: &[u8], positive: bool) -> Result<Claus
     })
 }
 
-#[test]
-fn a_refutation_names_its_clauses(rt: HostRuntime) -> Result<(), Fail> {
-    let alloc = rt.alloc();
+fn two_units(alloc: Global) -> Result<Problem, Fail> {
     let mut signature = Signature::new(alloc);
     signature.add_pred(symbol(alloc, b"p", 0)?)?;
     let mut clauses = one(alloc, unit(alloc, 1, b"a", true)?)?;
-    clauses
-        .push(unit(alloc, 2, b"b", false)?)
-        .ok()
-        .ok_or("memory")?;
-    let problem = Problem {
+    let second = unit(alloc, 2, b"b", false)?;
+    clauses.push(second).ok().ok_or("memory")?;
+    Ok(Problem {
         clauses,
         signature,
         c0: 0,
-    };
-    let list = [
-        Instance {
-            clause: 1,
-            literals: one(alloc, proposition(alloc, false))?,
-        },
-        Instance {
-            clause: 0,
-            literals: one(alloc, proposition(alloc, true))?,
-        },
-    ];
-    let text = print_refutation(alloc, b"stdin", &problem, &list)?;
+    })
+}
+
+#[test]
+fn a_refutation_names_its_clauses(rt: HostRuntime) -> Result<(), Fail> {
+    let alloc = rt.alloc();
+    let problem = two_units(alloc)?;
+    let mut list = Instances::new(alloc);
+    for (clause, positive) in [(1, false), (0, true)] {
+        let literals = one(alloc, proposition(alloc, positive))?;
+        let instance = Instance { clause, literals };
+        list.push(instance).ok().ok_or("memory")?;
+    }
+    let text = print_refutation(alloc, b"stdin", &problem, list.as_slice())?;
     let expected = b"% SZS status Unsatisfiable for stdin\n\
         % SZS output start Refutation for stdin\n\
         cnf(i1,plain,~p,instance(2,b)).\n\
@@ -107,14 +105,31 @@ fn a_refutation_names_its_clauses(rt: HostRuntime) -> Result<(), Fail> {
     Ok(())
 }
 
-fn constant(alloc: Global, f: u32) -> Term {
-    Term::App {
-        f,
-        args: Terms::new(alloc),
+fn two_predicates(alloc: Global) -> Result<Signature, Fail> {
+    let mut signature = Signature::new(alloc);
+    for name in [b"p", b"q"] {
+        signature.add_pred(symbol(alloc, name, 1)?)?;
     }
+    for name in [b"a", b"b"] {
+        signature.add_fun(symbol(alloc, name, 0)?)?;
+    }
+    Ok(signature)
 }
 
-fn entry(alloc: Global, positive: bool, pred: u32, arg: Term, kind: Kind) -> Result<Entry, Fail> {
+fn entry(
+    alloc: Global,
+    positive: bool,
+    pred: u32,
+    constant: Option<u32>,
+    kind: Kind,
+) -> Result<Entry, Fail> {
+    let arg = match constant {
+        Some(f) => Term::App {
+            f,
+            args: Terms::new(alloc),
+        },
+        None => Term::Var(0),
+    };
     let mut args = Terms::new(alloc);
     args.push(arg).ok().ok_or("memory")?;
     Ok(Entry {
@@ -125,35 +140,49 @@ fn entry(alloc: Global, positive: bool, pred: u32, arg: Term, kind: Kind) -> Res
     })
 }
 
+fn context(alloc: Global) -> Result<Entries, Fail> {
+    let pseudo_literal = Entry {
+        positive: false,
+        atom: Pattern::Any,
+        kind: Kind::Parametric,
+        reason: Reason::Pseudo,
+    };
+    let mut entries = one(alloc, pseudo_literal)?;
+    for (positive, pred, constant, kind) in [
+        (false, 0, Some(0), Kind::Universal),
+        (true, 1, Some(0), Kind::Universal),
+        (false, 1, Some(1), Kind::Universal),
+        (true, 0, Some(1), Kind::Universal),
+        (true, 0, None, Kind::Parametric),
+        (true, 0, None, Kind::Universal),
+    ] {
+        let entry = entry(alloc, positive, pred, constant, kind)?;
+        entries.push(entry).ok().ok_or("memory")?;
+    }
+    Ok(entries)
+}
+
+/// The model's text of the first entries, as many as `count`.
+fn model(alloc: Global, count: usize) -> Result<Vec<u8>, Fail> {
+    let signature = two_predicates(alloc)?;
+    let entries = context(alloc)?;
+    let first = entries.as_slice();
+    let first = &first[..count.min(first.len())];
+    Ok(print_model(alloc, b"stdin", &signature, first)?)
+}
+
 #[test]
-fn a_model_has_its_visible_entries(rt: HostRuntime) -> Result<(), Fail> {
-    let alloc = rt.alloc();
-    let mut signature = Signature::new(alloc);
-    signature.add_pred(symbol(alloc, b"p", 1)?)?;
-    signature.add_pred(symbol(alloc, b"q", 1)?)?;
-    signature.add_fun(symbol(alloc, b"a", 0)?)?;
-    signature.add_fun(symbol(alloc, b"b", 0)?)?;
-    let context = [
-        Entry {
-            positive: false,
-            atom: Pattern::Any,
-            kind: Kind::Parametric,
-            reason: Reason::Pseudo,
-        },
-        entry(alloc, false, 0, constant(alloc, 0), Kind::Universal)?,
-        entry(alloc, true, 1, constant(alloc, 0), Kind::Universal)?,
-        entry(alloc, false, 1, constant(alloc, 1), Kind::Universal)?,
-        entry(alloc, true, 0, constant(alloc, 1), Kind::Universal)?,
-        entry(alloc, true, 0, Term::Var(0), Kind::Parametric)?,
-        entry(alloc, true, 0, Term::Var(0), Kind::Universal)?,
-    ];
-    let empty = print_model(alloc, b"stdin", &signature, &context[..1])?;
+fn a_model_without_literals_has_its_default(rt: HostRuntime) -> Result<(), Fail> {
     let expected = b"% SZS status Satisfiable for stdin\n\
         % SZS output start Model for stdin\n\
         % default false\n\
         % SZS output end Model for stdin\n";
-    assert_eq!(rt; empty.as_slice(), expected.as_slice());
-    let split = print_model(alloc, b"stdin", &signature, &context[..6])?;
+    assert_eq!(rt; model(rt.alloc(), 1)?.as_slice(), expected.as_slice());
+    Ok(())
+}
+
+#[test]
+fn a_model_has_literals_of_both_kinds(rt: HostRuntime) -> Result<(), Fail> {
     let expected = b"% SZS status Satisfiable for stdin\n\
         % SZS output start Model for stdin\n\
         % default false\n\
@@ -163,8 +192,12 @@ fn a_model_has_its_visible_entries(rt: HostRuntime) -> Result<(), Fail> {
         cnf(e4,plain,p(b),universal).\n\
         cnf(e5,plain,p(X0),parametric).\n\
         % SZS output end Model for stdin\n";
-    assert_eq!(rt; split.as_slice(), expected.as_slice());
-    let hiding = print_model(alloc, b"stdin", &signature, &context)?;
+    assert_eq!(rt; model(rt.alloc(), 6)?.as_slice(), expected.as_slice());
+    Ok(())
+}
+
+#[test]
+fn hidden_entries_are_left_out(rt: HostRuntime) -> Result<(), Fail> {
     let expected = b"% SZS status Satisfiable for stdin\n\
         % SZS output start Model for stdin\n\
         % default false\n\
@@ -173,7 +206,7 @@ fn a_model_has_its_visible_entries(rt: HostRuntime) -> Result<(), Fail> {
         cnf(e3,plain,~q(b),universal).\n\
         cnf(e6,plain,p(X0),universal).\n\
         % SZS output end Model for stdin\n";
-    assert_eq!(rt; hiding.as_slice(), expected.as_slice());
+    assert_eq!(rt; model(rt.alloc(), 7)?.as_slice(), expected.as_slice());
     Ok(())
 }
 

@@ -1,4 +1,3 @@
-use Rattle.std.proofs.Common.{◌≡◌, sym, subst}
 use Rattle.szs_print.proofs.answer.print_answer.Goals as goal
 
 pub returns-in-Satisfiable : goal.returns-in-Satisfiable

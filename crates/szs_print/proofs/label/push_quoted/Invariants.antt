@@ -1,4 +1,4 @@
-use Rattle.std.proofs.Common.{◌≡◌, ◌∷◌, [], ◌++◌, drop}
+use Rattle.std.proofs.Common.{◌≡◌, ◌∷◌, ◌++◌, drop}
 use Rattle.std.specs.List.{flat_map}
 use Rattle.szs_print.specs.LabelText.{escaped}
 use Rattle.szs_print.proofs.label.push_quoted.Given as goal

@@ -1,4 +1,4 @@
-use Rattle.std.proofs.Common.{◌≡◌, ℕ, ◌+◌, List, ◌++◌, refl, sym, ap, subst, ◌∙◌, append_assoc, add-one}
+use Rattle.std.proofs.Common.{ℕ, List, ◌++◌, refl, sym, ap, subst, ◌∙◌, append_assoc, add-one}
 use Rattle.szs_print.specs.ModelText.{IsTextOf}
 use Rattle.szs_print.proofs.model.push_entries.Goals as goal
 

@@ -3,8 +3,6 @@ use Rattle.std.proofs.lemmas.List.{append-nil}
 use Rattle.std.proofs.lemmas.Option.{slice_get_read}
 use Rattle.std.proofs.lemmas.Bool.{false≢true}
 use Rattle.std.specs.Result.{OnOk}
-use Rattle.me_terms.specs.declared.atom.Pattern.{Pattern}
-use Rattle.me_terms.specs.declared.atom.Pattern.TheVariants.{Any, Of}
 use Rattle.szs_print.specs.ModelText.{IsTextAt, pseudo_literal, literal_line}
 use Rattle.szs_print.proofs.Hiding.{covered_text, visible_text, HasCover, after}
 use Rattle.szs_print.proofs.model.push_entry.Goals as goal
