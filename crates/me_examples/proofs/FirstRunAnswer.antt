@@ -119,8 +119,8 @@ close_solves = λ i k l e o. close_meets i k l e o.literal o.position o.stands
 close_unifier : IsUnifier after (negative_p ∷ []) (positions_of None (1 ∷ [])) apart
 close_unifier = apart_general after (negative_p ∷ []) (positions_of None (1 ∷ [])) close_solves
 
-close_2 : IsClose first_run after 1 (1 ∷ [])
-close_2 = record {
+closes_by_entry : IsClose first_run after 1 (1 ∷ [])
+closes_by_entry = record {
   clause = clause_not_p;
   family = apart;
   clause_at = refl;
@@ -139,7 +139,7 @@ only_close c tuple h =
     c h.clause h.clause_at h.unifier
 
 second_step : IsNext first_run usual_bounds after (Close 1 (1 ∷ []))
-second_step = (close_2, only_close)
+second_step = (closes_by_entry, only_close)
 
 -- ---- the list
 closing : IsClosingInstance first_run after 1 (1 ∷ []) (negative_p ∷ [])

@@ -4,12 +4,12 @@ use Rattle.std.proofs.lemmas.Bool.{eqb-true}
 use Rattle.me_terms.specs.Terms.{TermValue, Var, App, Arguments, Nil, Cons}
 use Rattle.me_terms.specs.Substitutions.{Substitution, apply_term, apply_arguments}
 use Rattle.me_terms.specs.Variables.{term_variables, variables_of, weight, weights, count}
-use Rattle.me_laws.proofs.Existence.{Equations, HoldsAll, Mgu, replace, replaced, replaced_holds, keeps, eliminate, turned, dropped, Other, one_there, none_there, pairs, pairs_hold, weighs, eqb_itself}
+use Rattle.me_laws.proofs.Existence.{Equations, HoldsAll, MostGeneral, replace, replaced, replaced_holds, keeps, eliminate, turned, dropped, Other, one_there, none_there, pairs, pairs_hold, weighs, eqb_itself}
 use Rattle.me_laws.proofs.Renaming.{Each, each_append, each_left, each_right, each_map, args_of}
 use Rattle.me_existence.proofs.Without.{StandsIn, without, shorter, stays, each_stays, in_left, in_right, each_self}
 
 abbrev pub Decided : Equations → Type 0
-Decided qs = Mgu qs ⊎ ((w : Substitution) → ¬ HoldsAll w qs)
+Decided qs = MostGeneral qs ⊎ ((w : Substitution) → ¬ HoldsAll w qs)
 
 -- all variables of the equations are among these
 abbrev pub Over : List ℕ → Equations → Type 0

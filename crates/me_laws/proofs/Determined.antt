@@ -108,14 +108,14 @@ split_determined problem bounds context c tuple place size size' l l' f g =
     f.split_literal ∙ (same ∙ sym g.split_literal)
 
 -- ---- least keys
-pub precedes_antisym : (key other : List ℕ) → Precedes key other → Precedes other key → key ≡ other
-precedes_antisym [] [] f g = refl
-precedes_antisym [] (y ∷ other) f g = absurd g
-precedes_antisym (x ∷ key) [] f g = absurd f
-precedes_antisym (x ∷ key) (y ∷ other) (inl f) (inl g) = absurd (omega arith)
-precedes_antisym (x ∷ key) (y ∷ other) (inl f) (inr g) = absurd (omega (arith, g.0))
-precedes_antisym (x ∷ key) (y ∷ other) (inr f) (inl g) = absurd (omega (arith, f.0))
-precedes_antisym (x ∷ key) (y ∷ other) (inr f) (inr g) = cc (f.0, precedes_antisym key other f.1 g.1)
+pub precedes_antisymmetric : (key other : List ℕ) → Precedes key other → Precedes other key → key ≡ other
+precedes_antisymmetric [] [] f g = refl
+precedes_antisymmetric [] (y ∷ other) f g = absurd g
+precedes_antisymmetric (x ∷ key) [] f g = absurd f
+precedes_antisymmetric (x ∷ key) (y ∷ other) (inl f) (inl g) = absurd (omega arith)
+precedes_antisymmetric (x ∷ key) (y ∷ other) (inl f) (inr g) = absurd (omega (arith, g.0))
+precedes_antisymmetric (x ∷ key) (y ∷ other) (inr f) (inl g) = absurd (omega (arith, f.0))
+precedes_antisymmetric (x ∷ key) (y ∷ other) (inr f) (inr g) = cc (f.0, precedes_antisymmetric key other f.1 g.1)
 
 no_nil : (xs : List ℕ) (x : ℕ) → [] ≡ xs ++ x ∷ [] → ⊥
 no_nil [] x h = cc
@@ -132,39 +132,39 @@ last_injective (a ∷ xs) (b ∷ ys) x y h =
 
 pub close_unique : (problem : ProblemValue) (context : Context) (c c' : ℕ) (tuple tuple' : List ℕ) → IsLeastClose problem context c tuple → IsLeastClose problem context c' tuple' → Close c tuple ≡ Close c' tuple'
 close_unique problem context c c' tuple tuple' f g =
-    cc (precedes_antisym (clause_key c tuple) (clause_key c' tuple') (f.1 c' tuple' g.0) (g.1 c tuple f.0))
+    cc (precedes_antisymmetric (clause_key c tuple) (clause_key c' tuple') (f.1 c' tuple' g.0) (g.1 c tuple f.0))
 
-coe_assert : (problem : ProblemValue) (bounds : Bounds) (context : Context) (e : EntryValue) {c c' place place' : ℕ} {tuple tuple' : List ℕ} → c ≡ c' → place ≡ place' → tuple ≡ tuple' → IsAssert problem bounds context c place tuple e → IsAssert problem bounds context c' place' tuple' e
-coe_assert problem bounds context e h i j f =
+carried_assert : (problem : ProblemValue) (bounds : Bounds) (context : Context) (e : EntryValue) {c c' place place' : ℕ} {tuple tuple' : List ℕ} → c ≡ c' → place ≡ place' → tuple ≡ tuple' → IsAssert problem bounds context c place tuple e → IsAssert problem bounds context c' place' tuple' e
+carried_assert problem bounds context e h i j f =
     let P : ℕ × ℕ × List ℕ → Type 0 = λ k. IsAssert problem bounds context k.0 k.1 k.2 e in
     subst P (λ n. (h n, i n, j n)) f
 
-coe_split : (problem : ProblemValue) (bounds : Bounds) (context : Context) (size : ℕ) (l : Literal) {c c' place place' : ℕ} {tuple tuple' : List ℕ} → c ≡ c' → tuple ≡ tuple' → place ≡ place' → IsSplit problem bounds context c tuple place size l → IsSplit problem bounds context c' tuple' place' size l
-coe_split problem bounds context size l h i j f =
+carried_split : (problem : ProblemValue) (bounds : Bounds) (context : Context) (size : ℕ) (l : Literal) {c c' place place' : ℕ} {tuple tuple' : List ℕ} → c ≡ c' → tuple ≡ tuple' → place ≡ place' → IsSplit problem bounds context c tuple place size l → IsSplit problem bounds context c' tuple' place' size l
+carried_split problem bounds context size l h i j f =
     let P : ℕ × List ℕ × ℕ → Type 0 = λ k. IsSplit problem bounds context k.0 k.1 k.2 size l in
     subst P (λ n. (h n, i n, j n)) f
 
 pub assert_unique : (problem : ProblemValue) (bounds : Bounds) (context : Context) (e e' : EntryValue) → IsLeastAssert problem bounds context e → IsLeastAssert problem bounds context e' → e ≡ e'
 assert_unique problem bounds context e e' f g =
-    let key = precedes_antisym (assert_key f.0 f.1 f.2 e) (assert_key g.0 g.1 g.2 e') (f.4 g.0 g.1 g.2 e' g.3) (g.4 f.0 f.1 f.2 e f.3) in
+    let key = precedes_antisymmetric (assert_key f.0 f.1 f.2 e) (assert_key g.0 g.1 g.2 e') (f.4 g.0 g.1 g.2 e' g.3) (g.4 f.0 f.1 f.2 e f.3) in
     let c : f.0 ≡ g.0 = cc key in
     let place : f.1 ≡ g.1 = cc key in
     let tuple : f.2 ≡ g.2 = cc key in
-    let moved : IsAssert problem bounds context g.0 g.1 g.2 e = coe_assert problem bounds context e c place tuple f.3 in
+    let moved : IsAssert problem bounds context g.0 g.1 g.2 e = carried_assert problem bounds context e c place tuple f.3 in
     assert_determined problem bounds context g.0 g.1 g.2 e e' moved g.3
 
 pub split_unique : (problem : ProblemValue) (bounds : Bounds) (context : Context) (l l' : Literal) → IsLeastSplit problem bounds context l → IsLeastSplit problem bounds context l' → l ≡ l'
 split_unique problem bounds context l l' f g =
-    let key = precedes_antisym (split_key f.0 f.3 f.1 f.2 l) (split_key g.0 g.3 g.1 g.2 l') (f.5 g.0 g.1 g.2 g.3 l' g.4) (g.5 f.0 f.1 f.2 f.3 l f.4) in
+    let key = precedes_antisymmetric (split_key f.0 f.3 f.1 f.2 l) (split_key g.0 g.3 g.1 g.2 l') (f.5 g.0 g.1 g.2 g.3 l' g.4) (g.5 f.0 f.1 f.2 f.3 l f.4) in
     let c : f.0 ≡ g.0 = cc key in
     let rest : f.3 ++ f.1 ∷ [] ≡ g.3 ++ g.1 ∷ [] = cc key in
     let both = last_injective f.3 g.3 f.1 g.1 rest in
-    let moved : IsSplit problem bounds context g.0 g.3 g.1 f.2 l = coe_split problem bounds context f.2 l c both.0 both.1 f.4 in
+    let moved : IsSplit problem bounds context g.0 g.3 g.1 f.2 l = carried_split problem bounds context f.2 l c both.0 both.1 f.4 in
     split_determined problem bounds context g.0 g.3 g.1 f.2 g.2 l l' moved g.4
 
 -- ---- the bound that stops a search
-coe_productive : (problem : ProblemValue) (context : Context) (clause : ClauseValue) (family : Family) {c c' : ℕ} {tuple tuple' : List ℕ} → c ≡ c' → tuple ≡ tuple' → IsProductiveUnifier problem context c tuple clause family → IsProductiveUnifier problem context c' tuple' clause family
-coe_productive problem context clause family h i f =
+carried_productive : (problem : ProblemValue) (context : Context) (clause : ClauseValue) (family : Family) {c c' : ℕ} {tuple tuple' : List ℕ} → c ≡ c' → tuple ≡ tuple' → IsProductiveUnifier problem context c tuple clause family → IsProductiveUnifier problem context c' tuple' clause family
+carried_productive problem context clause family h i f =
     let P : ℕ × List ℕ → Type 0 = λ k. IsProductiveUnifier problem context k.0 k.1 clause family in
     subst P (λ n. (h n, i n)) f
 
@@ -187,10 +187,10 @@ alike_there problem context c tuple x y u v i j is js l m f g first first' at at
 
 pub left_alike : (problem : ProblemValue) (context : Context) (l m : Literal) → IsFirstRemaining problem context l → IsFirstRemaining problem context m → (literal_depth l ≡ literal_depth m) × (literal_weight l ≡ literal_weight m)
 left_alike problem context l m f g =
-    let key = precedes_antisym (clause_key f.c f.tuple) (clause_key g.c g.tuple) (f.first g.c g.tuple g.clause g.family g.productive) (g.first f.c f.tuple f.clause f.family f.productive) in
+    let key = precedes_antisymmetric (clause_key f.c f.tuple) (clause_key g.c g.tuple) (f.first g.c g.tuple g.clause g.family g.productive) (g.first f.c f.tuple f.clause f.family f.productive) in
     let c : f.c ≡ g.c = cc key in
     let tuple : f.tuple ≡ g.tuple = cc key in
-    let mine = coe_productive problem context f.clause f.family c tuple f.productive in
+    let mine = carried_productive problem context f.clause f.family c tuple f.productive in
     let P : List ℕ → Type 0 = λ t. remainder context (positions_of None t) f.family ≡ f.place ∷ f.others in
     let both = alike_there problem context g.c g.tuple f.clause g.clause f.family g.family f.place g.place f.others g.others f.literal g.literal mine g.productive (subst P tuple f.first_place) g.first_place f.literal_at g.literal_at in
     (ap literal_depth f.unified_literal ∙ (both.0 ∙ ap literal_depth (sym g.unified_literal)), ap literal_weight f.unified_literal ∙ (both.1 ∙ ap literal_weight (sym g.unified_literal)))

@@ -20,7 +20,7 @@ total v [] = 0
 total v (q ∷ qs) = weight (apply_term v q.0) + total v qs
 
 -- a solution that every solution is an instance of
-pub record Mgu (qs : Equations) : Type 0 where
+pub record MostGeneral (qs : Equations) : Type 0 where
   pub substitution : Substitution
   pub holds : HoldsAll substitution qs
   pub general : (w : Substitution) → HoldsAll w qs → (x : ℕ) → apply_term w (substitution x) ≡ w x
@@ -72,7 +72,7 @@ replaced_total d v [] = refl
 replaced_total d v (q ∷ qs) =
     let first = sym (term_followed d v q.0) in λ i. weight (first i) + replaced_total d v qs i
 
-pub eliminate : (x : ℕ) (t : TermValue) (qs : Equations) → Each (Other x) (term_variables t) → Mgu (replaced (replace x t) qs) → Mgu ((Var x, t) ∷ qs)
+pub eliminate : (x : ℕ) (t : TermValue) (qs : Equations) → Each (Other x) (term_variables t) → MostGeneral (replaced (replace x t) qs) → MostGeneral ((Var x, t) ∷ qs)
 eliminate x t qs free m =
     let d : Substitution = replace x t in
     record {
@@ -85,10 +85,10 @@ eliminate x t qs free m =
           sym (term_followed m.substitution w (d y)) ∙ ((λ i. apply_term (λ z. below z i) (d y)) ∙ (λ i. same i y));
     }
 
-pub turned : (s t : TermValue) (qs : Equations) → Mgu ((s, t) ∷ qs) → Mgu ((t, s) ∷ qs)
+pub turned : (s t : TermValue) (qs : Equations) → MostGeneral ((s, t) ∷ qs) → MostGeneral ((t, s) ∷ qs)
 turned s t qs m = record { substitution = m.substitution; holds = (sym m.holds.0, m.holds.1); general = λ w h x. m.general w (sym h.0, h.1) x }
 
-pub dropped : (x y : ℕ) (qs : Equations) → x ≡ y → Mgu qs → Mgu ((Var x, Var y) ∷ qs)
+pub dropped : (x y : ℕ) (qs : Equations) → x ≡ y → MostGeneral qs → MostGeneral ((Var x, Var y) ∷ qs)
 dropped x y qs e m = record { substitution = m.substitution; holds = (ap m.substitution e, m.holds); general = λ w h z. m.general w h.1 z }
 
 pub none_there : (P : ℕ → Type 0) → Each P []
@@ -152,7 +152,7 @@ pairs_total v Nil (Cons t ts) qs = omega arith
 pairs_total v (Cons s ss) Nil qs = omega arith
 pairs_total v (Cons s ss) (Cons t ts) qs = omega (arith, pairs_total v ss ts qs)
 
-decompose : (v : Substitution) (f g : ℕ) (ss ts : Arguments) (qs : Equations) → f ≡ g → apply_arguments v ss ≡ apply_arguments v ts → Mgu (pairs ss ts ++ qs) → Mgu ((App f ss, App g ts) ∷ qs)
+decompose : (v : Substitution) (f g : ℕ) (ss ts : Arguments) (qs : Equations) → f ≡ g → apply_arguments v ss ≡ apply_arguments v ts → MostGeneral (pairs ss ts ++ qs) → MostGeneral ((App f ss, App g ts) ∷ qs)
 unfolding args_of
 decompose v f g ss ts qs e h m =
     let held = hold_pairs v m.substitution ss ts qs h m.holds in
@@ -163,26 +163,26 @@ decompose v f g ss ts qs e h m =
     }
 
 -- ---- the steps
-module _ (n : ℕ) (v : Substitution) (later : (qs : Equations) → HoldsAll v qs → total v qs ≤ n → Mgu qs) where
-  by_elimination : (x : ℕ) (t : TermValue) (qs : Equations) → Each (Other x) (term_variables t) → v x ≡ apply_term v t → HoldsAll v qs → total v qs ≤ n → Mgu ((Var x, t) ∷ qs)
+module _ (n : ℕ) (v : Substitution) (later : (qs : Equations) → HoldsAll v qs → total v qs ≤ n → MostGeneral qs) where
+  by_elimination : (x : ℕ) (t : TermValue) (qs : Equations) → Each (Other x) (term_variables t) → v x ≡ apply_term v t → HoldsAll v qs → total v qs ≤ n → MostGeneral ((Var x, t) ∷ qs)
   by_elimination x t qs free h rest le =
       let same : followed_by (replace x t) v ≡ v = keeps v x t h in
       let P : Substitution → Type 0 = λ s. HoldsAll s qs in
       let weighed : total v (replaced (replace x t) qs) ≡ total v qs = replaced_total (replace x t) v qs ∙ ap (λ (s : Substitution). total s qs) same in
       eliminate x t qs free (later (replaced (replace x t) qs) (replaced_holds (replace x t) v qs (subst P (sym same) rest)) (omega (arith, weighed, le)))
 
-  of_variables : (x y : ℕ) (qs : Equations) (test : Bool) → eqb y x ≡ test → v x ≡ v y → HoldsAll v qs → total v qs ≤ n → Mgu ((Var x, Var y) ∷ qs)
+  of_variables : (x y : ℕ) (qs : Equations) (test : Bool) → eqb y x ≡ test → v x ≡ v y → HoldsAll v qs → total v qs ≤ n → MostGeneral ((Var x, Var y) ∷ qs)
   of_variables x y qs true e h rest le = dropped x y qs (sym (eqb-true y x e)) (later qs rest le)
   of_variables x y qs false e h rest le = by_elimination x (Var y) qs (one_there x y e) h rest le
 
-  of_variable : (x f : ℕ) (ts : Arguments) (qs : Equations) → v x ≡ App f (apply_arguments v ts) → HoldsAll v qs → total v qs ≤ n → Mgu ((Var x, App f ts) ∷ qs)
+  of_variable : (x f : ℕ) (ts : Arguments) (qs : Equations) → v x ≡ App f (apply_arguments v ts) → HoldsAll v qs → total v qs ≤ n → MostGeneral ((Var x, App f ts) ∷ qs)
   of_variable x f ts qs h rest le =
-      elim (occurs_all v x ts) as (λ _. Mgu ((Var x, App f ts) ∷ qs)) [
+      elim (occurs_all v x ts) as (λ _. MostGeneral ((Var x, App f ts) ∷ qs)) [
         | inl free ↦ by_elimination x (App f ts) qs free h rest le
         | inr heavy ↦ let same : weight (v x) ≡ 1 + weights (apply_arguments v ts) = ap weight h in absurd (omega (arith, heavy, same))
       ]
 
-  step : (s t : TermValue) (qs : Equations) → apply_term v s ≡ apply_term v t → HoldsAll v qs → weight (apply_term v s) + total v qs ≤ suc n → Mgu ((s, t) ∷ qs)
+  step : (s t : TermValue) (qs : Equations) → apply_term v s ≡ apply_term v t → HoldsAll v qs → weight (apply_term v s) + total v qs ≤ suc n → MostGeneral ((s, t) ∷ qs)
   unfolding args_of
   step (Var x) (Var y) qs h rest le = let w = weighs (v x) in of_variables x y qs (eqb y x) refl h rest (omega (arith, w, le))
   step (Var x) (App f ts) qs h rest le = let w = weighs (v x) in of_variable x f ts qs h rest (omega (arith, w, le))
@@ -192,10 +192,10 @@ module _ (n : ℕ) (v : Substitution) (later : (qs : Equations) → HoldsAll v q
       let bound = pairs_total v ss ts qs in
       decompose v f g ss ts qs (cc h) args (later (pairs ss ts ++ qs) (pairs_hold v ss ts qs args rest) (omega (arith, bound, le)))
 
-unify_within : (n : ℕ) (v : Substitution) (qs : Equations) → HoldsAll v qs → total v qs ≤ n → Mgu qs
+unify_within : (n : ℕ) (v : Substitution) (qs : Equations) → HoldsAll v qs → total v qs ≤ n → MostGeneral qs
 unify_within n v [] h le = record { substitution = Var; holds = tt; general = λ w g x. refl }
 unify_within zero v (q ∷ qs) h le = let w = weighs (apply_term v q.0) in absurd (omega (arith, w, le))
 unify_within (suc n) v (q ∷ qs) h le = step n v (λ rs g m. unify_within n v rs g m) q.0 q.1 qs h.0 h.1 le
 
-pub most_general_of : (v : Substitution) (qs : Equations) → HoldsAll v qs → Mgu qs
+pub most_general_of : (v : Substitution) (qs : Equations) → HoldsAll v qs → MostGeneral qs
 most_general_of v qs h = unify_within (total v qs) v qs h (omega arith)
