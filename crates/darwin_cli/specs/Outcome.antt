@@ -1,0 +1,85 @@
+-- What the program owes to what it is given: which refusals have their cause, and which answers are true of the file.
+use Rattle.std.specs.Prelude.{◌≡◌, ◌⊎◌, ◌+◌, ◌<◌, ◌≤◌, ℕ, List, [], length, codes, Option, Some, IfSome}
+use Rattle.std.specs.Global.{Global}
+use Rattle.std.specs.Io.KnownBytes.{Consumes, Appends}
+use Rattle.std.specs.declared.string.String.{String}
+use Rattle.me_io.specs.Source.{Rose}
+use Rattle.me_terms.specs.Values.{ProblemValue}
+use Rattle.me_terms.specs.declared.answer.Answer.{Answer}
+use Rattle.tptp_cnf.specs.SmallFiles.{IsSmallFile}
+use Rattle.szs_print.specs.AnswerText.{IsAnswerText}
+use Rattle.szs_print.specs.RefusalText.{refusal_text}
+use Rattle.szs_print.specs.declared.refusal.Refusal.{Refusal}
+use Rattle.szs_print.specs.declared.refusal.Refusal.TheVariants.{Usage, NotYet, Syntax, Inappropriate, Limit, Length, Read, Memory}
+
+-- The name of the problem in what is written.
+abbrev pub problem_name : List ℕ
+problem_name = codes "stdin"
+
+-- The program's name is the only word.
+abbrev pub AreAccepted : List (String Global) → Type 0
+AreAccepted words = length words ≡ 1
+
+-- No problem is the meaning of the bytes.
+abbrev pub HasNoProblem : List ℕ → Type 0
+HasNoProblem bytes = (problem : ProblemValue) → ¬ IsSmallFile bytes problem
+
+-- The exit status of a refusal.
+abbrev pub status_of : Refusal → ℕ
+status_of Usage = 1
+status_of NotYet = 3
+status_of (Syntax at) = 2
+status_of (Inappropriate what at) = 3
+status_of (Limit which at) = 4
+status_of Length = 4
+status_of Read = 5
+status_of Memory = 7
+
+-- The first four say what is known of a source: the bytes left in it, how many it gave so far, that its end was reached, and its count of faults. The source was old before the call with these words, and new after it.
+module _ {S : Type 0} (left : S → Option (List ℕ)) (given : S → ℕ) (ended : S → Type 0) (faults : S → ℕ) (words : List (String Global)) (old new : S) where
+  -- The source gave up these bytes, and they are all up to its end.
+  pub record GaveAll (bytes : List ℕ) : Type 0 where
+    pub gone : Consumes (left old) (left new) bytes
+    pub counted : given new ≡ given old + length bytes
+    pub end : ended new
+
+  -- The source tells its bytes: it gave up these, which are not too many and all up to its end.
+  pub record GaveKnown (bytes : List ℕ) : Type 0 where
+    pub told : left old ≡ Some bytes
+    pub end : left new ≡ Some []
+    pub few : length bytes ≤ 67108864
+
+  -- The source gave up a byte after the first 67,108,864, and where it tells its bytes, so many were left in it.
+  pub record GaveTooMany : Type 0 where
+    pub counted : given old + 67108864 < given new
+    pub told : IfSome (left old) (λ bytes. 67108864 < length bytes)
+
+  -- The refusal has its cause.
+  abbrev pub IsCause : Refusal → Type 0
+  IsCause Usage = ¬ AreAccepted words
+  IsCause NotYet = AreAccepted words × ((bytes : List ℕ) × GaveAll bytes × HasNoProblem bytes)
+  IsCause (Syntax at) = ⊥
+  IsCause (Inappropriate what at) = ⊥
+  IsCause (Limit which at) = ⊥
+  IsCause Length = AreAccepted words × GaveTooMany
+  IsCause Read = AreAccepted words × Rose (faults old) (faults new)
+  IsCause Memory = Unit {0}
+
+  -- The text is that of an answer to the problem that the bytes of the source mean.
+  pub record IsAnswered (text : List ℕ) : Type 0 where
+    pub accepted : AreAccepted words
+    pub bytes : List ℕ
+    pub problem : ProblemValue
+    pub answer : Answer
+    pub all : GaveAll bytes
+    pub means : IsSmallFile bytes problem
+    pub text_is : IsAnswerText problem_name problem answer text
+
+  -- A refusal of this status has its cause, and its text was written to a sink, which held these bytes before and those after it.
+  abbrev pub IsRefused : ℕ → (held held' : Option (List ℕ)) → Type 0
+  IsRefused status held held' =
+      (refusal : Refusal) × (status ≡ status_of refusal) × IsCause refusal × Appends held held' (refusal_text problem_name refusal)
+
+  -- The text is due: that of an answer, or that of a refusal with its cause.
+  abbrev pub IsDue : List ℕ → Type 0
+  IsDue text = IsAnswered text ⊎ ((refusal : Refusal) × IsCause refusal × (text ≡ refusal_text problem_name refusal))

@@ -1,0 +1,13 @@
+//! The program from its words to its status.
+//!
+//! `run` reads the words, then the source, then the problem, solves it, and writes what it found. Each
+//! status has its cause, and what was written is known.
+#![tactic(auto)]
+
+mod search;
+mod top;
+
+pub use top::run;
+
+#[cfg(test)]
+mod tests;

@@ -1,0 +1,143 @@
+//! The top call.
+//!
+//! It takes everything from outside through its arguments, so what it does is known for every source and
+//! every sink. Each status but 7 comes for its cause alone.
+ghost use Rattle.std.specs.Prelude.{◌≡◌, ◌≢◌, ◌+◌, ◌<◌, ◌≤◌, ◌⊎◌, ℕ, List, length, take, OnOk, OnErr, IfOk, IfErr, IsErrOf, IsErr};
+ghost use Rattle.std.specs.Io.KnownBytes.{Appends};
+ghost use Rattle.me_io.specs.Source.{Rose};
+ghost use Rattle.me_io.specs.Sink.{AppendedFront};
+ghost use Rattle.me_terms.specs.Validity.{IsValid};
+ghost use Rattle.me_terms.specs.Values.{ProblemValue};
+ghost use Rattle.me_terms.specs.declared.answer.Answer.{Answer};
+ghost use Rattle.szs_print.specs.AnswerText.{IsAnswerText};
+ghost use Rattle.tptp_cnf.specs.SmallFiles.{IsSmallFile};
+ghost use Rattle.szs_print.specs.RefusalText.{refusal_text};
+ghost use Rattle.darwin_cli.specs.Outcome.{problem_name, AreAccepted, GaveKnown, HasNoProblem, IsCause, IsAnswered, IsRefused, IsDue, status_of as status_number};
+
+use crate::search::solve;
+use me_io::{ReadError, Sink, Source, read_all, write_all};
+use me_terms::{Bounds, Problem, Text};
+use std::alloc::{AllocError, Global};
+use szs_print::{Refusal, print_answer, write_refusal};
+use tptp_cnf::{CnfError, read_problem};
+
+/// The name of the problem in what is written.
+const NAME: &[u8] = b"stdin";
+
+const BOUNDS: Bounds = Bounds {
+    depth: 6,
+    weight: 1_000,
+    literals: 2_000,
+    list: 10_000_000,
+};
+
+/// Reads a problem from the source, solves it, and writes the answer or the refusal to the sink.
+///
+/// `words` are the program's name and its arguments, of which there are none yet. The result is the exit
+/// status: 0 where an answer was written, 1 for words that are not accepted, 3 for a file that is not
+/// read yet, 4 for a file of more than 67,108,864 bytes, 5 for a fault of the source, 6 for a fault of
+/// the sink, and 7 for want of memory.
+pub fn run<S: Source, K: Sink>(
+    alloc: Global,
+    words: &Vec<String>,
+    source: &mut S,
+    sink: &mut K,
+) -> u8
+    ensures status { (result ≤ 7) × (result ≢ 2) }
+
+    // The whole text of an answer or of a refusal was written, and nothing else; or a front of it, where
+    // the sink failed.
+    ensures answered { result ≡ 0 → (text : List ℕ) × IsAnswered S.left S.given S.ended S.faults words.now.items source.old source.new text × Appends (K.written sink.old) (K.written sink.new) text }
+    ensures refused { 0 < result → result ≢ 6 → IsRefused S.left S.given S.ended S.faults words.now.items source.old source.new result (K.written sink.old) (K.written sink.new) }
+    ensures front { result ≡ 6 → (text : List ℕ) × (written : ℕ) × IsDue S.left S.given S.ended S.faults words.now.items source.old source.new text × AppendedFront (K.written sink.old) (K.written sink.new) written text }
+    ensures sink_fault { result ≡ 6 → Rose (K.faults sink.old) (K.faults sink.new) }
+
+    // Each cause comes with its status, but for faults and want of memory.
+    ensures usage { ¬ AreAccepted words.now.items → (result ≡ 1) ⊎ (result ≡ 6) }
+    ensures unread { ¬ AreAccepted words.now.items → source.new ≡ source.old }
+    ensures too_long { AreAccepted words.now.items → S.given source.old + 67108864 < S.given source.new → (result ≡ 4) ⊎ (result ≡ 6) }
+    ensures not_yet { AreAccepted words.now.items → (bytes : List ℕ) → GaveKnown S.left S.given S.ended S.faults words.now.items source.old source.new bytes → HasNoProblem bytes → (result ≡ 3) ⊎ (5 ≤ result) }
+    ensures small { AreAccepted words.now.items → (bytes : List ℕ) (problem : ProblemValue) → GaveKnown S.left S.given S.ended S.faults words.now.items source.old source.new bytes → IsSmallFile bytes problem → (result ≡ 0) ⊎ (5 ≤ result) }
+{
+    match answer(alloc, words, source) {
+        Ok(text) => match write_all(sink, &text) {
+            Ok(()) => 0,
+            Err(_) => 6,
+        },
+        Err(refusal) => match write_refusal(sink, NAME, &refusal) {
+            Ok(()) => status_of(&refusal),
+            Err(_) => 6,
+        },
+    }
+}
+
+/// The exit status of a refusal.
+fn status_of(refusal: &Refusal) -> u8
+    ensures { result ≡ status_number refusal.now }
+{
+    match refusal {
+        Refusal::Usage => 1,
+        Refusal::Syntax { .. } => 2,
+        Refusal::Inappropriate { .. } | Refusal::NotYet => 3,
+        Refusal::Limit { .. } | Refusal::Length => 4,
+        Refusal::Read => 5,
+        Refusal::Memory => 7,
+    }
+}
+
+/// The text of the answer, or why there is none.
+fn answer<S: Source>(alloc: Global, words: &Vec<String>, source: &mut S) -> Result<Vec<u8>, Refusal>
+    ensures answered { IfOk result (λ text. IsAnswered S.left S.given S.ended S.faults words.now.items source.old source.new text.items) }
+    ensures refused { IfErr result (IsCause S.left S.given S.ended S.faults words.now.items source.old source.new) }
+    ensures usage { ¬ AreAccepted words.now.items → IsErrOf result Refusal.Usage }
+    ensures unread { ¬ AreAccepted words.now.items → source.new ≡ source.old }
+    ensures too_long { AreAccepted words.now.items → S.given source.old + 67108864 < S.given source.new → IsErrOf result Refusal.Length }
+{
+    if words.len() != 1 {
+        return Err(Refusal::Usage);
+    }
+    match read_all(alloc, source) {
+        Ok(bytes) => solved(alloc, &bytes),
+        Err(ReadError::Fault) => Err(Refusal::Read),
+        Err(ReadError::TooLong) => Err(Refusal::Length),
+        Err(ReadError::Memory) => Err(Refusal::Memory),
+    }
+}
+
+/// The text of the answer to the problem that the bytes mean.
+fn solved(alloc: Global, bytes: &[u8]) -> Result<Vec<u8>, Refusal>
+    requires { length bytes.now ≤ 67108864 }
+    ensures answered { IfOk result (λ text. (problem : ProblemValue) × (answer : Answer) × IsSmallFile bytes.now problem × IsAnswerText problem_name problem answer text.items) }
+    ensures refused { IfErr result (λ refusal. (refusal ≡ Refusal.NotYet) ⊎ (refusal ≡ Refusal.Memory)) }
+    ensures not_yet { IsErrOf result Refusal.NotYet → HasNoProblem bytes.now }
+{
+    let problem = match read_problem(alloc, bytes) {
+        Ok(problem) => problem,
+        Err(CnfError::NotYet) => return Err(Refusal::NotYet),
+        Err(CnfError::Memory) => return Err(Refusal::Memory),
+    };
+    match text_of(alloc, &problem) {
+        Ok(text) => Ok(text),
+        Err(_) => Err(Refusal::Memory),
+    }
+}
+
+/// The text of an answer to the problem.
+fn text_of(alloc: Global, problem: &Problem) -> Result<Vec<u8>, AllocError>
+    requires { IsValid problem.now }
+    ensures { IfOk result (λ text. (answer : Answer) × IsAnswerText problem_name problem.now answer text.items) }
+{
+    let answer = solve(alloc, problem, &BOUNDS)?;
+    print_answer(alloc, &name(alloc)?, problem, &answer)
+}
+
+/// The name of the problem.
+fn name(alloc: Global) -> Result<Text, AllocError>
+    ensures { IfOk result (λ name. name.items ≡ problem_name) }
+{
+    let mut name = Text::new(alloc);
+    for byte in NAME {
+        name.push(*byte).map_err(|_| AllocError)?;
+    }
+    Ok(name)
+}
