@@ -1,0 +1,53 @@
+#!/usr/bin/env python3
+"""Times the built program on a generated file, and prints its speed and its peak memory.
+
+usage: bench/read.py [MEGABYTES]     after ./prove has built the program
+
+The clauses have one to five literals over 1,500 atoms. Two contradictory units end the search at its first
+split, so nearly all of the time is reading.
+"""
+import os
+import random
+import resource
+import subprocess
+import sys
+import tempfile
+import time
+
+TOP = os.path.dirname(os.path.dirname(os.path.abspath(__file__)))
+PROGRAM = os.path.join(TOP, "crates", "darwin", "out", "darwin")
+
+
+def clauses(size):
+    draw = random.Random(7)
+    yield "cnf(yes,axiom,top).\ncnf(no,axiom,~top).\n"
+    written, number = 40, 0
+    while written < size:
+        number += 1
+        literals = []
+        for _ in range(draw.randint(1, 5)):
+            sign = "~" if draw.random() < 0.5 else ""
+            literals.append(f"{sign}atom{draw.randrange(1500)}")
+        line = f"cnf(c{number},axiom,{'|'.join(literals)}).\n"
+        written += len(line)
+        yield line
+
+
+def main():
+    megabytes = int(sys.argv[1]) if len(sys.argv) > 1 else 10
+    with tempfile.TemporaryFile("w+") as file:
+        for line in clauses(megabytes * 1_000_000):
+            file.write(line)
+        file.flush()
+        size = file.tell()
+        file.seek(0)
+        begun = time.monotonic()
+        ended = subprocess.run([PROGRAM], stdin=file, stdout=subprocess.PIPE)
+        seconds = time.monotonic() - begun
+    peak = resource.getrusage(resource.RUSAGE_CHILDREN).ru_maxrss * 1024
+    print(ended.stdout.decode().splitlines()[0])
+    print(f"{size / 1e6:.1f} MB in {seconds:.2f} s: {size / 1e6 / seconds:.1f} MB/s")
+    print(f"peak memory {peak / 1e6:.0f} MB: {peak / size:.1f} bytes a byte of the file")
+
+
+main()
