@@ -1,13 +1,14 @@
 -- What the program owes to what it is given: which refusals have their cause, and which answers are true of the file.
-use Rattle.std.specs.Prelude.{◌≡◌, ◌⊎◌, ◌+◌, ◌<◌, ◌≤◌, ℕ, List, [], length, codes, Option, Some, IfSome}
+use Rattle.std.specs.Prelude.{◌≡◌, ◌⊎◌, ◌+◌, ◌<◌, ◌≤◌, ℕ, List, length, codes, Option, IfSome}
 use Rattle.std.specs.Global.{Global}
-use Rattle.std.specs.Io.KnownBytes.{Consumes, Appends}
+use Rattle.std.specs.Io.KnownBytes.{Consumes, IsAtEnd, Appends}
 use Rattle.std.specs.declared.string.String.{String}
 use Rattle.me_io.specs.Source.{Rose}
 use Rattle.me_terms.specs.Values.{ProblemValue}
 use Rattle.me_terms.specs.declared.answer.Answer.{Answer}
 use Rattle.tptp_cnf.specs.SmallFiles.{IsSmallFile}
 use Rattle.szs_print.specs.AnswerText.{IsAnswerText}
+use Rattle.szs_print.specs.Printable.{IsPrintable}
 use Rattle.szs_print.specs.RefusalText.{refusal_text}
 use Rattle.szs_print.specs.declared.refusal.Refusal.{Refusal}
 use Rattle.szs_print.specs.declared.refusal.Refusal.TheVariants.{Usage, NotYet, Syntax, Inappropriate, Limit, Length, Read, Memory}
@@ -37,16 +38,12 @@ status_of Memory = 7
 
 -- The first four say what is known of a source: the bytes left in it, how many it gave so far, that its end was reached, and its count of faults. The source was old before the call with these words, and new after it.
 module _ {S : Type 0} (left : S → Option (List ℕ)) (given : S → ℕ) (ended : S → Type 0) (faults : S → ℕ) (words : List (String Global)) (old new : S) where
-  -- The source gave up these bytes, and they are all up to its end.
+  -- The source gave up these bytes, which are not too many and all up to its end: where it tells its bytes, none is left.
   pub record GaveAll (bytes : List ℕ) : Type 0 where
     pub gone : Consumes (left old) (left new) bytes
     pub counted : given new ≡ given old + length bytes
     pub end : ended new
-
-  -- The source tells its bytes: it gave up these, which are not too many and all up to its end.
-  pub record GaveKnown (bytes : List ℕ) : Type 0 where
-    pub told : left old ≡ Some bytes
-    pub end : left new ≡ Some []
+    pub none_left : IsAtEnd (left new)
     pub few : length bytes ≤ 67108864
 
   -- The source gave up a byte after the first 67,108,864, and where it tells its bytes, so many were left in it.
@@ -63,9 +60,9 @@ module _ {S : Type 0} (left : S → Option (List ℕ)) (given : S → ℕ) (ende
   IsCause (Limit which at) = ⊥
   IsCause Length = AreAccepted words × GaveTooMany
   IsCause Read = AreAccepted words × Rose (faults old) (faults new)
-  IsCause Memory = Unit {0}
+  IsCause Memory = AreAccepted words
 
-  -- The text is that of an answer to the problem that the bytes of the source mean.
+  -- The text is that of an answer over the problem that the bytes of the source mean.
   pub record IsAnswered (text : List ℕ) : Type 0 where
     pub accepted : AreAccepted words
     pub bytes : List ℕ
@@ -73,6 +70,7 @@ module _ {S : Type 0} (left : S → Option (List ℕ)) (given : S → ℕ) (ende
     pub answer : Answer
     pub all : GaveAll bytes
     pub means : IsSmallFile bytes problem
+    pub known : IsPrintable problem answer
     pub text_is : IsAnswerText problem_name problem answer text
 
   -- A refusal of this status has its cause, and its text was written to a sink, which held these bytes before and those after it.

@@ -1,7 +1,7 @@
 //! The program from its words to its status.
 //!
 //! `run` reads the words, then the source, then the problem, solves it, and writes what it found. Each
-//! status has its cause, and what was written is known.
+//! status but 7 has its cause, and what was written is known.
 #![tactic(auto)]
 
 mod search;

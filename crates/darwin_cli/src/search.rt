@@ -55,7 +55,7 @@ pub fn solve(alloc: Global, problem: &Problem, bounds: &Bounds) -> Result<Answer
     ensures { IfOk result (IsPrintable problem.now) }
 {
     let mut search = Search::new(alloc, problem)?;
-    match search.explore(bounds.literals)? {
+    match search.explore(bounds.literals.saturating_sub(1))? {
         Outcome::Closed => Ok(Answer::Unsatisfiable {
             list: instances(alloc, problem, &search.closing)?,
         }),

@@ -2,7 +2,7 @@
 //!
 //! It takes everything from outside through its arguments, so what it does is known for every source and
 //! every sink. Each status but 7 comes for its cause alone.
-ghost use Rattle.std.specs.Prelude.{◌≡◌, ◌≢◌, ◌+◌, ◌<◌, ◌≤◌, ◌⊎◌, ℕ, List, length, take, OnOk, OnErr, IfOk, IfErr, IsErrOf, IsErr};
+ghost use Rattle.std.specs.Prelude.{◌≡◌, ◌≢◌, ◌+◌, ◌<◌, ◌≤◌, ◌⊎◌, ℕ, List, length, take, OnOk, OnErr, Some, IfOk, IfErr, IsErrOf, IsErr};
 ghost use Rattle.std.specs.Io.KnownBytes.{Appends};
 ghost use Rattle.me_io.specs.Source.{Rose};
 ghost use Rattle.me_io.specs.Sink.{AppendedFront};
@@ -11,8 +11,9 @@ ghost use Rattle.me_terms.specs.Values.{ProblemValue};
 ghost use Rattle.me_terms.specs.declared.answer.Answer.{Answer};
 ghost use Rattle.szs_print.specs.AnswerText.{IsAnswerText};
 ghost use Rattle.tptp_cnf.specs.SmallFiles.{IsSmallFile};
+ghost use Rattle.szs_print.specs.Printable.{IsPrintable};
 ghost use Rattle.szs_print.specs.RefusalText.{refusal_text};
-ghost use Rattle.darwin_cli.specs.Outcome.{problem_name, AreAccepted, GaveKnown, HasNoProblem, IsCause, IsAnswered, IsRefused, IsDue, status_of as status_number};
+ghost use Rattle.darwin_cli.specs.Outcome.{problem_name, AreAccepted, HasNoProblem, IsCause, IsAnswered, IsRefused, IsDue, status_of as status_number};
 
 use crate::search::solve;
 use me_io::{ReadError, Sink, Source, read_all, write_all};
@@ -56,8 +57,10 @@ pub fn run<S: Source, K: Sink>(
     ensures usage { ¬ AreAccepted words.now.items → (result ≡ 1) ⊎ (result ≡ 6) }
     ensures unread { ¬ AreAccepted words.now.items → source.new ≡ source.old }
     ensures too_long { AreAccepted words.now.items → S.given source.old + 67108864 < S.given source.new → (result ≡ 4) ⊎ (result ≡ 6) }
-    ensures not_yet { AreAccepted words.now.items → (bytes : List ℕ) → GaveKnown S.left S.given S.ended S.faults words.now.items source.old source.new bytes → HasNoProblem bytes → (result ≡ 3) ⊎ (5 ≤ result) }
-    ensures small { AreAccepted words.now.items → (bytes : List ℕ) (problem : ProblemValue) → GaveKnown S.left S.given S.ended S.faults words.now.items source.old source.new bytes → IsSmallFile bytes problem → (result ≡ 0) ⊎ (5 ≤ result) }
+    // Of sources that tell their bytes.
+    ensures not_yet { AreAccepted words.now.items → (bytes : List ℕ) → S.left source.old ≡ Some bytes → length bytes ≤ 67108864 → HasNoProblem bytes → (result ≡ 3) ⊎ (5 ≤ result) }
+    ensures small { AreAccepted words.now.items → (bytes : List ℕ) (problem : ProblemValue) → S.left source.old ≡ Some bytes → length bytes ≤ 67108864 → IsSmallFile bytes problem → (result ≡ 0) ⊎ (5 ≤ result) }
+    ensures complete { AreAccepted words.now.items → (bytes : List ℕ) (problem : ProblemValue) → S.left source.old ≡ Some bytes → length bytes ≤ 67108864 → IsSmallFile bytes problem → ¬ Rose (S.faults source.old) (S.faults source.new) → ¬ Rose (K.faults sink.old) (K.faults sink.new) → (result ≡ 0) ⊎ (result ≡ 7) }
 {
     match answer(alloc, words, source) {
         Ok(text) => match write_all(sink, &text) {
@@ -107,7 +110,7 @@ fn answer<S: Source>(alloc: Global, words: &Vec<String>, source: &mut S) -> Resu
 /// The text of the answer to the problem that the bytes mean.
 fn solved(alloc: Global, bytes: &[u8]) -> Result<Vec<u8>, Refusal>
     requires { length bytes.now ≤ 67108864 }
-    ensures answered { IfOk result (λ text. (problem : ProblemValue) × (answer : Answer) × IsSmallFile bytes.now problem × IsAnswerText problem_name problem answer text.items) }
+    ensures answered { IfOk result (λ text. (problem : ProblemValue) × (answer : Answer) × IsSmallFile bytes.now problem × IsPrintable problem answer × IsAnswerText problem_name problem answer text.items) }
     ensures refused { IfErr result (λ refusal. (refusal ≡ Refusal.NotYet) ⊎ (refusal ≡ Refusal.Memory)) }
     ensures not_yet { IsErrOf result Refusal.NotYet → HasNoProblem bytes.now }
 {
@@ -125,7 +128,7 @@ fn solved(alloc: Global, bytes: &[u8]) -> Result<Vec<u8>, Refusal>
 /// The text of an answer to the problem.
 fn text_of(alloc: Global, problem: &Problem) -> Result<Vec<u8>, AllocError>
     requires { IsValid problem.now }
-    ensures { IfOk result (λ text. (answer : Answer) × IsAnswerText problem_name problem.now answer text.items) }
+    ensures { IfOk result (λ text. (answer : Answer) × IsPrintable problem.now answer × IsAnswerText problem_name problem.now answer text.items) }
 {
     let answer = solve(alloc, problem, &BOUNDS)?;
     print_answer(alloc, &name(alloc)?, problem, &answer)

@@ -1,8 +1,7 @@
-use Rattle.std.proofs.Common.{◌≡◌, subst, sym, List, [], ◌∷◌, ◌++◌}
-use Rattle.std.specs.Prelude.{OnOk, IsTrue}
+use Rattle.std.proofs.Common.{subst, sym, [], ◌∷◌, ◌++◌}
+use Rattle.std.specs.Prelude.{IsTrue}
 use Rattle.me_terms.specs.Context.{IsAtomWith}
 use Rattle.me_terms.specs.Signatures.{is_known_atom}
-use Rattle.me_terms.specs.Values.{EntryValue}
 use Rattle.me_terms.specs.declared.atom.Pattern.{Pattern}
 use Rattle.szs_print.specs.Printable.{IsKnownContext}
 use Rattle.darwin_cli.proofs.Known.{known_added}

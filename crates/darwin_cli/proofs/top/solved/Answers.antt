@@ -1,4 +1,4 @@
-use Rattle.std.proofs.Common.{◌≡◌, ap, Err}
+use Rattle.std.proofs.Common.{ap, Err}
 use Rattle.tptp_cnf.specs.declared.error.CnfError.{CnfError}
 use Rattle.darwin_cli.proofs.top.solved.Goals as goal
 
