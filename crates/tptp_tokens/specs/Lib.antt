@@ -1,0 +1,5 @@
+pub mod Bytes
+pub mod Gaps
+pub mod Numbers
+pub mod Quoted
+pub mod Tokens
