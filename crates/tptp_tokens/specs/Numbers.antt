@@ -11,21 +11,26 @@ IsDigits text = (text ≢ []) × IsTrue (list_all is_digit text)
 abbrev pub IsSign : List ℕ → Type 0
 IsSign text = (text ≡ []) ⊎ (text ≡ 43 ∷ []) ⊎ (text ≡ 45 ∷ [])
 
--- nothing, or a full stop with digits
+-- this byte with digits behind it
+abbrev pub IsDigitsBehind : ℕ → List ℕ → Type 0
+IsDigitsBehind mark text = (digits : List ℕ) × (text ≡ mark ∷ digits) × IsDigits digits
+
+-- nothing, or a full stop with digits behind it
 abbrev pub IsFraction : List ℕ → Type 0
-IsFraction text = (text ≡ []) ⊎ ((digits : List ℕ) × (text ≡ 46 ∷ digits) × IsDigits digits)
+IsFraction text = (text ≡ []) ⊎ IsDigitsBehind 46 text
 
--- nothing, or an e or E with a sign and digits
+-- this byte, a sign and digits
+abbrev pub IsPower : ℕ → List ℕ → Type 0
+IsPower mark text = (sign digits : List ℕ) × (text ≡ mark ∷ (sign ++ digits)) × IsSign sign × IsDigits digits
+
+-- nothing, or an e or E with a sign and digits behind it
 abbrev pub IsExponent : List ℕ → Type 0
-IsExponent text =
-    (text ≡ []) ⊎ ((mark : ℕ) × (sign digits : List ℕ) × ((mark ≡ 101) ⊎ (mark ≡ 69)) × (text ≡ mark ∷ (sign ++ digits)) × IsSign sign × IsDigits digits)
+IsExponent text = (text ≡ []) ⊎ IsPower 101 text ⊎ IsPower 69 text
 
--- a slash with digits, or a fraction with an exponent
+-- a slash with digits behind it, or a fraction with an exponent
 abbrev pub IsTail : List ℕ → Type 0
-IsTail text =
-    ((digits : List ℕ) × (text ≡ 47 ∷ digits) × IsDigits digits)
-    ⊎ ((fraction exponent : List ℕ) × (text ≡ fraction ++ exponent) × IsFraction fraction × IsExponent exponent)
+IsTail text = IsDigitsBehind 47 text ⊎ ((fraction exponent : List ℕ) × (text ≡ fraction ++ exponent) × IsFraction fraction × IsExponent exponent)
 
 -- a sign, digits and a tail
 abbrev pub IsNumber : List ℕ → Type 0
-IsNumber text = (sign digits tail : List ℕ) × (text ≡ sign ++ digits ++ tail) × IsSign sign × IsDigits digits × IsTail tail
+IsNumber text = (sign digits tail : List ℕ) × (text ≡ sign ++ (digits ++ tail)) × IsSign sign × IsDigits digits × IsTail tail

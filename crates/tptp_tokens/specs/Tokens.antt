@@ -6,6 +6,7 @@ use Rattle.tptp_tokens.specs.Bytes.{is_lower, is_upper, is_word_byte, is_other_s
 use Rattle.tptp_tokens.specs.Gaps.{IsGap}
 use Rattle.tptp_tokens.specs.Numbers.{IsDigits, IsNumber}
 use Rattle.tptp_tokens.specs.Quoted.{escaped, unescaped}
+use Rattle.tptp_tokens.specs.Remainders.{Remainder}
 use Rattle.tptp_tokens.specs.declared.token.Token.{Token}
 use Rattle.tptp_tokens.specs.declared.token.TokenKind.{TokenKind}
 use Rattle.tptp_tokens.specs.declared.token.TokenKind.TheVariants.{LowerWord, Variable, DollarWord, SingleQuoted, Distinct, Digits, Number, OpenRound, CloseRound, OpenSquare, CloseSquare, Comma, Dot, Bar, Tilde, Equal, NotEqual, OtherSign, Bad}
@@ -95,11 +96,6 @@ abbrev pub IsFirst : TokenValue → List ℕ → List ℕ → Type 0
 IsFirst token bytes rest = IsFirstAs token.kind token.text bytes rest
 
 -- ---- the cut of bytes into tokens
-
--- what is left to be cut: the bytes, and the place of the first of them
-pub record Remainder : Type 0 where
-  pub at : ℕ
-  pub bytes : List ℕ
 
 -- After a gap this token comes next, and then what is left. A place and the number of bytes from it on always sum to the same.
 pub record IsNext (now : Remainder) (placed : PlacedToken) (left : Remainder) : Type 0 where
