@@ -1,3 +1,4 @@
+pub mod Counted
 pub mod Firsts
 pub mod Gaps
 pub mod Leads
@@ -5,3 +6,4 @@ pub mod Numbers
 pub mod OneCut
 pub mod Quotes
 pub mod Runs
+pub mod Texts

@@ -1,9 +1,9 @@
 -- How texts are written in quotes, and read.
-use Rattle.std.proofs.Common.{◌≡◌, ◌≢◌, ◌≤◌, ◌-◌, ℕ, Bool, true, false, List, [], ◌∷◌, ◌++◌, length, take, refl, sym, ap, ◌∙◌, append_assoc, arith}
+use Rattle.std.proofs.Common.{◌≡◌, ◌≢◌, ◌≤◌, ◌<◌, ◌-◌, ◌+◌, ℕ, Bool, true, false, List, [], ◌∷◌, ◌++◌, length, take, drop, get_or, refl, sym, ap, ◌∙◌, inl, inr, suc, add-one, append_assoc, arith}
 use Rattle.std.proofs.lemmas.List.{append-nil, length-append, append_cancel_right}
 use Rattle.std.proofs.lemmas.Bool.Decides.{nat_tests}
-use Rattle.std.proofs.Math.Seq.{take-append_seam}
-use Rattle.std.specs.Prelude.{◌==◌, if◌then◌else◌}
+use Rattle.std.proofs.Math.Seq.{take-append_seam, drop-cons}
+use Rattle.std.specs.Prelude.{◌⊎◌, ◌==◌, if◌then◌else◌}
 use Rattle.std.specs.List.{list_all}
 use Rattle.me_terms.specs.Labels.{is_printable}
 use Rattle.tptp_tokens.specs.Quoted.{is_escaped, escaped_if, escaped_byte, escaped, unescaped_from, unescaped}
@@ -104,3 +104,20 @@ unescaped-escaped q (b ∷ w) = read_if (is_escaped q b) q b (escaped q w) refl 
 
 pub text_is : (q : ℕ) (bytes inside rest : List ℕ) (c : IsClosed q bytes inside rest) → unescaped inside ≡ c.text
 text_is q bytes inside rest c = ap (λ (x : List ℕ). unescaped x) c.is ∙ unescaped-escaped q c.text
+
+-- ---- a loop that reads what is written
+
+step_text : (pending : Bool) (b : ℕ) (rest : List ℕ) → (pending ≡ true) ⊎ (b ≢ 92) → unescaped_from pending (b ∷ rest) ≡ b ∷ unescaped_from false rest
+step_text true b rest h = refl
+step_text false b rest (inl e) = absurd cc
+step_text false b rest (inr n) = let k : (b == 92) ≡ false = grind (arith, nat_tests) in rw k refl
+
+-- a byte that stands for itself is read
+pub reads_on : (pending : Bool) (so_far now written : List ℕ) (i : ℕ) → i < length written → so_far ++ unescaped_from pending (drop i written) ≡ unescaped written → (pending ≡ true) ⊎ (get_or written i 0 ≢ 92)
+    → now ≡ so_far ++ get_or written i 0 ∷ [] → now ++ unescaped_from false (drop (i + 1) written) ≡ unescaped written
+reads_on pending so_far now written i lt e h n =
+    let b : ℕ = get_or written i 0 in
+    let rest : List ℕ = drop (suc i) written in
+    let cut : drop i written ≡ b ∷ rest = drop-cons written i 0 lt in
+    let one : unescaped_from pending (drop i written) ≡ b ∷ unescaped_from false rest = ap (unescaped_from pending) cut ∙ step_text pending b rest h in
+    rw (n, add-one) (append_assoc so_far (b ∷ []) (unescaped_from false rest) ∙ ap (λ (x : List ℕ). so_far ++ x) (sym one) ∙ e)

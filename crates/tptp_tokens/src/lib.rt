@@ -11,13 +11,15 @@ mod laws;
 mod lead;
 mod number;
 mod quoted;
+mod text;
 mod token;
 mod tokenizer;
 
-pub use laws::{one_cut, one_next};
+pub use laws::{lower_words_are_words, one_cut, one_next};
 pub use quoted::unescaped;
+pub use text::text_of;
 pub use token::{Token, TokenKind};
-pub use tokenizer::Tokenizer;
+pub use tokenizer::{Tokenizer, token_count};
 
 #[cfg(test)]
 mod tests;

@@ -7,6 +7,7 @@ ghost use Rattle.tptp_tokens.specs.Founds.{BeginsPrintable, IsPrintables, IsClos
 ghost use Rattle.tptp_tokens.specs.Quoted.{is_escaped, unescaped};
 
 use crate::bytes::{after_byte, printable};
+use crate::text::push;
 use me_terms::Text;
 use std::alloc::{AllocError, Global};
 
@@ -66,6 +67,7 @@ pub(crate) fn closed(bytes: &[u8], quote: u8) -> Option<(&[u8], &[u8])>
 }
 
 /// The text of what stands between two quotes: each pair of a backslash and a byte is read as the byte.
+/// The error says that memory is out.
 pub fn unescaped(alloc: Global, written: &[u8]) -> Result<Text, AllocError>
     ensures { IfOk result (λ text. text.items ≡ unescaped written.now) }
 {
@@ -74,10 +76,10 @@ pub fn unescaped(alloc: Global, written: &[u8]) -> Result<Text, AllocError>
     'bytes: for byte in written {
         if !pending && *byte == b'\\' {
             pending = true;
-        } else {
-            text.push(*byte).map_err(|_| AllocError)?;
-            pending = false;
+            continue;
         }
+        push(&mut text, *byte)?;
+        pending = false;
     }
     Ok(text)
 }

@@ -2,9 +2,9 @@
 //!
 //! It gives the tokens of bytes one after another, each with its place. It takes no memory, and looks
 //! at each byte a bounded number of times.
-ghost use Rattle.std.specs.Prelude.{◌≡◌, ◌<◌, [], length, IfSome, IfNone};
+ghost use Rattle.std.specs.Prelude.{◌≡◌, ◌<◌, [], List, length, IfSome, IfNone};
 ghost use Rattle.tptp_tokens.specs.Gaps.{IsGap};
-ghost use Rattle.tptp_tokens.specs.Tokens.{IsNext, placed_token};
+ghost use Rattle.tptp_tokens.specs.Tokens.{PlacedToken, IsNext, IsCut, placed_token};
 
 use crate::first::first;
 use crate::gap::after_gap;
@@ -60,4 +60,16 @@ impl<'a> Tokenizer<'a> {
             None => None,
         }
     }
+}
+
+/// The number of tokens into which the bytes are cut.
+pub fn token_count(bytes: &[u8]) -> u64
+    ensures { (tokens : List PlacedToken) × IsCut bytes.now tokens × (length tokens ≡ result) }
+{
+    let mut tokenizer = Tokenizer::new(bytes);
+    let mut count = 0;
+    'tokens: while let Some(_) = tokenizer.next() {
+        count += 1;
+    }
+    count
 }
