@@ -1,5 +1,5 @@
 -- A loop over the tokens of bytes gives their cut.
-use Rattle.std.proofs.Common.{◌≡◌, ◌≤◌, ◌<◌, ℕ, ◌+◌, List, [], ◌∷◌, length, refl, ◌∙◌, arith}
+use Rattle.std.proofs.Common.{◌≡◌, ◌≤◌, ◌<◌, ℕ, ◌+◌, List, [], ◌∷◌, length, arith}
 use Rattle.tptp_tokens.specs.Gaps.{IsGap}
 use Rattle.tptp_tokens.specs.Remainders.{Remainder}
 use Rattle.tptp_tokens.specs.Tokens.{PlacedToken, IsNext, IsCutFrom, IsCut}

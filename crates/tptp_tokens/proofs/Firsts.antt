@@ -1,17 +1,17 @@
 -- The first token of bytes is found by its first byte.
 use Rattle.std.proofs.Common.{◌≡◌, ◌≢◌, ◌≤◌, ◌-◌, ℕ, ◌+◌, Bool, true, false, List, [], ◌∷◌, ◌++◌, length, take, refl, sym, ap, subst, ◌∙◌, inl, inr, arith, append_assoc}
 use Rattle.std.proofs.lemmas.Bool.Decides.{nat_tests}
-use Rattle.std.proofs.lemmas.List.{append_cancel_right, length-append}
-use Rattle.std.specs.Prelude.{◌⊎◌, ◌==◌, ◌||◌, if◌then◌else◌}
+use Rattle.std.proofs.lemmas.List.{append_cancel_right}
+use Rattle.std.specs.Prelude.{◌⊎◌, ◌==◌, if◌then◌else◌}
 use Rattle.std.specs.List.{list_all}
 use Rattle.me_terms.specs.Labels.{is_digit, is_printable}
-use Rattle.tptp_tokens.specs.Bytes.{is_lower, is_upper, is_word_byte, is_other_sign}
+use Rattle.tptp_tokens.specs.Bytes.{is_word_byte, is_other_sign}
 use Rattle.tptp_tokens.specs.Founds.{IsClosed, BeginsSignsAlone}
 use Rattle.tptp_tokens.specs.Fronts.{IsRun, IsAfter, HasNoFront}
 use Rattle.tptp_tokens.specs.Leads.{lead_of, sign_kind}
-use Rattle.tptp_tokens.specs.Numbers.{IsNumber, IsDigits}
+use Rattle.tptp_tokens.specs.Numbers.{IsNumber}
 use Rattle.tptp_tokens.specs.Quoted.{escaped, unescaped}
-use Rattle.tptp_tokens.specs.Tokens.{TokenValue, IsText, IsToken, written_as, written, text_as, IsLongest, IsFirstAs, IsBad, OpensComment, BeginsNone}
+use Rattle.tptp_tokens.specs.Tokens.{IsText, written_as, written, text_as, IsLongest, IsFirstAs, IsBad, OpensComment, BeginsNone}
 use Rattle.tptp_tokens.specs.declared.lead.Lead.{Lead}
 use Rattle.tptp_tokens.specs.declared.lead.Lead.TheVariants.{LowerLetter, UpperLetter, Dollar, SingleQuote, DoubleQuote, Numeric, Exclamation, Other}
 use Rattle.tptp_tokens.specs.declared.token.TokenKind.{TokenKind}

@@ -1,13 +1,12 @@
 -- The longest numbers and parts of numbers.
 use Rattle.std.proofs.Common.{◌≡◌, ◌≤◌, ℕ, ◌+◌, Bool, true, false, List, [], ◌∷◌, ◌++◌, length, refl, ap, sym, subst, ◌∙◌, inl, inr, arith, append_assoc}
-use Rattle.std.proofs.lemmas.List.{append_cancel_left, length-append, append-nil}
-use Rattle.std.specs.Prelude.{◌⊎◌, ◌==◌, Option, Some, None, IfSome, IfNone}
-use Rattle.std.specs.List.{list_all}
+use Rattle.std.proofs.lemmas.List.{append_cancel_left, length-append}
+use Rattle.std.specs.Prelude.{◌==◌, Option, Some, None, IfSome, IfNone}
 use denote.Ref.{Bor}
 use Rattle.me_terms.specs.Labels.{is_digit}
 use Rattle.tptp_tokens.specs.Fronts.{Stops, IsRun, IsFront, IsAfter, HasNoFront}
 use Rattle.tptp_tokens.specs.Numbers.{IsDigits, IsSign, IsDigitsBehind, IsFraction, IsPower, IsExponent, IsTail, IsNumber}
-use Rattle.tptp_tokens.proofs.Runs.{heads, differ, all_first, all_more, all_append, run_longest, run_then}
+use Rattle.tptp_tokens.proofs.Runs.{heads, differ, all_first, all_append, run_longest, run_then}
 
 -- one or more digits, and nothing more of them
 abbrev pub Digits : List ℕ → List ℕ → Type 0

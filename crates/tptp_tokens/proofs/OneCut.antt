@@ -1,6 +1,6 @@
 -- Bytes are cut into tokens in one way.
-use Rattle.std.proofs.Common.{◌≡◌, ◌≢◌, ◌≤◌, ◌<◌, ℕ, ◌+◌, Bool, true, false, List, [], ◌∷◌, ◌++◌, length, refl, sym, ap, subst, ◌∙◌, inl, inr, arith}
-use Rattle.std.proofs.lemmas.List.{append_cancel_left, length-append}
+use Rattle.std.proofs.Common.{◌≡◌, ◌≢◌, ◌<◌, ℕ, ◌+◌, Bool, true, false, List, [], ◌∷◌, ◌++◌, length, refl, sym, ap, subst, ◌∙◌, inl, inr, arith}
+use Rattle.std.proofs.lemmas.List.{length-append}
 use Rattle.std.specs.Prelude.{◌⊎◌, if◌then◌else◌}
 use Rattle.std.specs.List.{list_all}
 use Rattle.me_terms.specs.Labels.{is_digit}
@@ -10,14 +10,14 @@ use Rattle.tptp_tokens.specs.Leads.{lead_of, sign_kind}
 use Rattle.tptp_tokens.specs.Numbers.{IsNumber, IsDigits}
 use Rattle.tptp_tokens.specs.Quoted.{escaped}
 use Rattle.tptp_tokens.specs.Remainders.{Remainder}
-use Rattle.tptp_tokens.specs.Tokens.{TokenValue, PlacedToken, IsText, IsToken, written_as, written, IsLongest, IsFirstAs, IsFirst, IsBad, OpensComment, BeginsNone, IsNext, IsCutFrom, IsCut}
+use Rattle.tptp_tokens.specs.Tokens.{TokenValue, PlacedToken, IsText, IsToken, written_as, written, IsLongest, IsFirstAs, IsFirst, IsBad, OpensComment, BeginsNone, IsNext, IsCutFrom}
 use Rattle.tptp_tokens.specs.declared.lead.Lead.{Lead}
 use Rattle.tptp_tokens.specs.declared.lead.Lead.TheVariants.{LowerLetter, UpperLetter, Dollar, SingleQuote, DoubleQuote, Numeric, Exclamation, Other}
 use Rattle.tptp_tokens.specs.declared.token.TokenKind.{TokenKind}
 use Rattle.tptp_tokens.specs.declared.token.TokenKind.TheVariants as kinds
 use Rattle.tptp_tokens.proofs.Runs.{heads, differ}
 use Rattle.tptp_tokens.proofs.Quotes.{one_text}
-use Rattle.tptp_tokens.proofs.Leads.{Led, led, other_signs, lower_lead, upper_lead, digit_lead, NumberLed, number_led}
+use Rattle.tptp_tokens.proofs.Leads.{led, other_signs, lower_lead, upper_lead, digit_lead, NumberLed, number_led}
 
 -- ---- one gap
 

@@ -1,9 +1,9 @@
 -- How texts are written in quotes, and read.
 use Rattle.std.proofs.Common.{◌≡◌, ◌≢◌, ◌≤◌, ◌<◌, ◌-◌, ◌+◌, ℕ, Bool, true, false, List, [], ◌∷◌, ◌++◌, length, take, drop, get_or, refl, sym, ap, ◌∙◌, inl, inr, suc, add-one, append_assoc, arith}
-use Rattle.std.proofs.lemmas.List.{append-nil, length-append, append_cancel_right}
+use Rattle.std.proofs.lemmas.List.{append-nil, length-append}
 use Rattle.std.proofs.lemmas.Bool.Decides.{nat_tests}
 use Rattle.std.proofs.Math.Seq.{take-append_seam, drop-cons}
-use Rattle.std.specs.Prelude.{◌⊎◌, ◌==◌, if◌then◌else◌}
+use Rattle.std.specs.Prelude.{◌⊎◌, ◌==◌}
 use Rattle.std.specs.List.{list_all}
 use Rattle.me_terms.specs.Labels.{is_printable}
 use Rattle.tptp_tokens.specs.Quoted.{is_escaped, escaped_if, escaped_byte, escaped, unescaped_from, unescaped}

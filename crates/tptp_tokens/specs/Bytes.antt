@@ -1,5 +1,5 @@
 -- The kinds of bytes, and where a run of one kind stops.
-use Rattle.std.specs.Prelude.{◌≡◌, ℕ, Bool, false, List, [], ◌∷◌, nat_le, ◌&&◌, ◌||◌, ◌==◌}
+use Rattle.std.specs.Prelude.{ℕ, Bool, nat_le, ◌&&◌, ◌||◌, ◌==◌}
 use Rattle.me_terms.specs.Labels.{is_digit}
 
 -- bytes 9 to 13 and 32

@@ -1,4 +1,4 @@
-use Rattle.std.proofs.Common.{inl, inr, arith}
+use Rattle.std.proofs.Common.{inl, inr}
 use Rattle.tptp_tokens.proofs.Quotes.{reads_on}
 use Rattle.tptp_tokens.proofs.quoted.unescaped.Goals as goal
 use Rattle.tptp_tokens.proofs.quoted.unescaped.Goals.{else-not-pending-via-then-not-pending+else-byte-eq92, else-not-pending-via-else-not-pending}

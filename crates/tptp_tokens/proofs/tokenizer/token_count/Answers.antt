@@ -1,4 +1,4 @@
-use Rattle.tptp_tokens.proofs.Counted.{none_counted, one_more, all_counted}
+use Rattle.tptp_tokens.proofs.Counted.{one_more, all_counted}
 use Rattle.tptp_tokens.proofs.tokenizer.token_count.Goals as goal
 
 pub tokens-preserved : goal.tokens-preserved
