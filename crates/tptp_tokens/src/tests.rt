@@ -1,9 +1,8 @@
-use crate::{Token, TokenKind, Tokenizer, unescaped};
+use crate::{TokenKind, Tokenizer, text_of, token_count};
 use TokenKind::{
     Bad, Bar, Comma, Digits, Distinct, DollarWord, Dot, LowerWord, NotEqual, Number, OpenRound,
     OtherSign, SingleQuoted, Variable,
 };
-use std::alloc::Global;
 use std::test::Fail;
 
 /// Whether the bytes are cut into these tokens, each given by its place, its kind and its text.
@@ -43,4 +42,19 @@ fn near_misses(rt: HostRuntime) {
     assert!(rt; are_tokens(b"p/*/", &[(0, LowerWord, b"p"), (1, Bad, b"/*/")]));
     assert!(rt; are_tokens(b"X% .", &[(0, Variable, b"X")]));
     assert!(rt; are_tokens(b"p\xff,", &[(0, LowerWord, b"p"), (1, Bad, b"\xff,")]));
+}
+
+#[test]
+fn texts_have_no_backslash_of_a_pair(rt: HostRuntime) -> Result<(), Fail> {
+    let alloc = rt.alloc();
+    let bytes = b"p'a\\'\\\\b'";
+    let mut tokenizer = Tokenizer::new(bytes);
+    let bare = tokenizer.next().ok_or("a word")?;
+    let quoted = tokenizer.next().ok_or("a quoted word")?;
+    let first = text_of(alloc, &bare).ok().ok_or("memory")?;
+    let second = text_of(alloc, &quoted).ok().ok_or("memory")?;
+    assert!(rt; first.as_slice() == b"p".as_slice());
+    assert!(rt; second.as_slice() == b"a'\\b".as_slice());
+    assert!(rt; token_count(bytes) == 2);
+    Ok(())
 }
