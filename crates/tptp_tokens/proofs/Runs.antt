@@ -1,0 +1,59 @@
+-- Runs of bytes that pass a test, and what may come after them.
+use Rattle.std.proofs.Common.{◌≡◌, ◌≤◌, ℕ, ◌+◌, Bool, true, false, cond, List, [], ◌∷◌, ◌++◌, length, take, drop, refl, ap, sym, ◌∙◌, one-add, arith}
+use Rattle.std.specs.Prelude.{◌&&◌}
+use Rattle.std.specs.List.{prefix_len, list_all}
+use Rattle.tptp_tokens.specs.Fronts.{Stops, IsRun, IsFront}
+
+pub heads : (a b : ℕ) (x y : List ℕ) → a ∷ x ≡ b ∷ y → (a ≡ b) × (x ≡ y)
+heads a b x y h = (cc, cc)
+
+pub differ : (p : ℕ → Bool) (b c : ℕ) → b ≡ c → p b ≡ true → p c ≡ false → ⊥
+differ p b c e h k = let g : p b ≡ false = ap p e ∙ k in cc
+
+both : (u v : Bool) → (u && v) ≡ true → (u ≡ true) × (v ≡ true)
+both true v h = (refl, h)
+both false v h = absurd cc
+
+pub all_first : (p : ℕ → Bool) (b : ℕ) (bytes : List ℕ) → list_all p (b ∷ bytes) ≡ true → (p b ≡ true) × (list_all p bytes ≡ true)
+all_first p b bytes h = both (p b) (list_all p bytes) h
+
+pub all_more : (p : ℕ → Bool) (b : ℕ) (bytes : List ℕ) → p b ≡ true → list_all p bytes ≡ true → list_all p (b ∷ bytes) ≡ true
+all_more p b bytes h k = rw h k
+
+pub all_append : (p : ℕ → Bool) (x : List ℕ) (b : ℕ) → list_all p x ≡ true → p b ≡ true → list_all p (x ++ b ∷ []) ≡ true
+all_append p [] b h k = all_more p b [] k refl
+all_append p (c ∷ x) b h k = let f = all_first p c x h in all_more p c (x ++ b ∷ []) f.0 (all_append p x b f.1 k)
+
+-- one more byte at the front
+more : (p : ℕ → Bool) (b : ℕ) (bytes front rest : List ℕ) → p b ≡ true → IsRun p bytes front rest → IsRun p (b ∷ bytes) (b ∷ front) rest
+more p b bytes front rest here h = record { parts = ap (λ (v : List ℕ). b ∷ v) h.parts; each = all_more p b front here h.each; stops = h.stops }
+
+front_of : (p : ℕ → Bool) (b : ℕ) (bytes : List ℕ) (v : Bool) (n : ℕ) → p b ≡ v → IsRun p bytes (take n bytes) (drop n bytes) → IsRun p (b ∷ bytes) (take (cond v (1 + n) 0) (b ∷ bytes)) (drop (cond v (1 + n) 0) (b ∷ bytes))
+front_of p b bytes true n here h = rw one-add (more p b bytes (take n bytes) (drop n bytes) here h)
+front_of p b bytes false n here h = record { parts = refl; each = refl; stops = here }
+
+longest : (p : ℕ → Bool) (bytes : List ℕ) → IsRun p bytes (take (prefix_len p bytes) bytes) (drop (prefix_len p bytes) bytes)
+longest p [] = record { parts = refl; each = refl; stops = tt }
+longest p (b ∷ bytes) = front_of p b bytes (p b) (prefix_len p bytes) refl (longest p bytes)
+
+pub run_behind : (p : ℕ → Bool) (bytes rest : List ℕ) (n : ℕ) → n ≡ prefix_len p bytes → rest ≡ drop n bytes → (run : List ℕ) × IsRun p bytes run rest
+run_behind p bytes rest n e f = (take n bytes, rw (f, e) (longest p bytes))
+
+-- no longer front has the test
+pub run_longest : (p : ℕ → Bool) (run rest f r : List ℕ) → list_all p f ≡ true → Stops p rest → run ++ rest ≡ f ++ r → length f ≤ length run
+run_longest p run rest [] r hf st e = omega arith
+run_longest p [] [] (c ∷ f) r hf st e = absurd cc
+run_longest p [] (b ∷ rest) (c ∷ f) r hf st e = absurd (differ p c b (sym (heads b c rest (f ++ r) e).0) (all_first p c f hf).0 st)
+run_longest p (b ∷ run) rest (c ∷ f) r hf st e = let k = run_longest p run rest f r (all_first p c f hf).1 st (heads b c (run ++ rest) (f ++ r) e).1 in omega arith
+
+-- a run and the longest front of what comes after it: no run with such a front is longer together
+pub run_then : (p : ℕ → Bool) (Q : List ℕ → Type 0) → ((t : List ℕ) → Q t → Stops p t) → (run rest e end f t r : List ℕ) → list_all p run ≡ true → Stops p rest → IsFront Q rest e end
+    → list_all p f ≡ true → Q t → run ++ rest ≡ f ++ (t ++ r) → length f + length t ≤ length run + length e
+run_then p Q q [] rest e end [] t r hr st fr hf ht eq = let k = fr.longest t r ht eq in omega arith
+run_then p Q q [] [] e end (c ∷ f) t r hr st fr hf ht eq = absurd cc
+run_then p Q q [] (b ∷ rest) e end (c ∷ f) t r hr st fr hf ht eq = absurd (differ p c b (sym (heads b c rest (f ++ (t ++ r)) eq).0) (all_first p c f hf).0 st)
+run_then p Q q (b ∷ run) rest e end [] [] r hr st fr hf ht eq = omega arith
+run_then p Q q (b ∷ run) rest e end [] (c ∷ t) r hr st fr hf ht eq = absurd (differ p b c (heads b c (run ++ rest) (t ++ r) eq).0 (all_first p b run hr).0 (q (c ∷ t) ht))
+run_then p Q q (b ∷ run) rest e end (c ∷ f) t r hr st fr hf ht eq =
+    let k = run_then p Q q run rest e end f t r (all_first p b run hr).1 st fr (all_first p c f hf).1 ht (heads b c (run ++ rest) (f ++ (t ++ r)) eq).1 in
+    omega arith

@@ -1,0 +1,9 @@
+use Rattle.std.proofs.Common.{length}
+use Rattle.tptp_tokens.proofs.Gaps.{LineSoFar}
+use Rattle.tptp_tokens.proofs.gap.after_line.Given as goal
+
+abbrev pub invariant-bytes : goal.invariant-bytes
+invariant-bytes l = LineSoFar l.bytes l.rest
+
+abbrev pub decreases-bytes : goal.decreases-bytes
+decreases-bytes l = length l.rest

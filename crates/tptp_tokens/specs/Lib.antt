@@ -1,0 +1,9 @@
+pub mod Bytes
+pub mod Founds
+pub mod Fronts
+pub mod Gaps
+pub mod Leads
+pub mod Numbers
+pub mod Quoted
+pub mod Remainders
+pub mod Tokens
