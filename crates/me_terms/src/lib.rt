@@ -18,6 +18,7 @@ mod signature;
 mod symbol;
 mod term;
 mod tuple;
+mod view;
 
 pub use again::Again;
 pub use answer::{Answer, Instance, Instances, Next};
@@ -33,6 +34,7 @@ pub use signature::Signature;
 pub use symbol::{Form, Label, Symbol, Text};
 pub use term::{Term, Terms};
 pub use tuple::Tuple;
+pub use view::{Refused, Trunk, View};
 
 #[cfg(test)]
 mod tests;
