@@ -1,1 +1,2 @@
 pub mod Producers
+pub mod Small

@@ -9,3 +9,6 @@ mod truth;
 
 pub use production::produces;
 pub use truth::{Verdict, truth_of};
+
+#[cfg(test)]
+mod tests;

@@ -55,6 +55,9 @@ pub(crate) fn newly_hidden(
     ensures all { IfOk result (λ places. (k : ℕ) → IsNewlyHidden entries.now hidden_by.now later.now k → IsMember k places.items) }
 {
     let mut places = Places::new(alloc);
+    if later.kind == Kind::Parametric {
+        return Ok(places);
+    }
     for k in 0..entries.len() {
         if is_newly_hidden(entries, hidden_by, later, k) {
             let Ok(()) = places.push(k as u32) else {

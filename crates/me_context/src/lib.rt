@@ -8,3 +8,6 @@ mod context;
 mod hiding;
 
 pub use context::Context;
+
+#[cfg(test)]
+mod tests;
