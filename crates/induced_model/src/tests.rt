@@ -62,11 +62,20 @@ fn example(alloc: Global) -> Result<Context, AllocError> {
 fn the_truth_of_atoms(rt: HostRuntime) -> Result<(), Fail> {
     let alloc = rt.alloc();
     let context = example(alloc)?;
-    let verdict = truth_of(&context, &pair(alloc, constant(alloc, 0), constant(alloc, 1))?);
+    let verdict = truth_of(
+        &context,
+        &pair(alloc, constant(alloc, 0), constant(alloc, 1))?,
+    );
     assert_eq!(rt; (verdict.value, verdict.entry), (false, 2));
-    let verdict = truth_of(&context, &pair(alloc, constant(alloc, 0), constant(alloc, 0))?);
+    let verdict = truth_of(
+        &context,
+        &pair(alloc, constant(alloc, 0), constant(alloc, 0))?,
+    );
     assert_eq!(rt; (verdict.value, verdict.entry), (true, 1));
-    let verdict = truth_of(&context, &pair(alloc, constant(alloc, 1), constant(alloc, 0))?);
+    let verdict = truth_of(
+        &context,
+        &pair(alloc, constant(alloc, 1), constant(alloc, 0))?,
+    );
     assert_eq!(rt; (verdict.value, verdict.entry), (false, 0));
     let literal = Literal {
         positive: false,
