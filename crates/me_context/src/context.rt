@@ -1,0 +1,196 @@
+//! The context that one search extends and takes back.
+//!
+//! A contract sees a `Context` as its list of entries. What is visible is told in constant time: it is kept
+//! beside the entries, and `add` and `pop` change it exactly where it changes.
+ghost use Rattle.std.specs.Prelude.{◌≡◌, ◌<◌, ◌≤◌, Bool, false, [], ◌∷◌, ◌++◌, length, vec_len, vec_capacity, ◌+◌, ◌↔◌, IsNone, OnOk, OnErr, IfOk, IfErr, IfSome, IsTrue, map};
+ghost use Rattle.me_terms.specs.Context.{IsLiteralEntry, pseudo, add};
+ghost use Rattle.me_terms.specs.Contradictory.{Contradicts};
+ghost use Rattle.me_context.specs.Views.{items_of};
+
+use crate::hiding::{is_shown, mark, newly_hidden};
+use me_terms::{Again, Entry, Kind, Pattern, Places, Reason};
+use me_view::{Refused, Trunk, View};
+use std::alloc::{AllocError, Global};
+use std::marker::Model;
+
+/// A context: the pseudo-literal, and the entries that were added to it.
+#[derive(Drop)]
+pub struct Context {
+    entries: Vec<Entry>,
+    hidden_by: Vec<Option<u32>>,
+    hides: Vec<Places>,
+}
+
+impl Model for Context {
+    ghost use Rattle.std.specs.Prelude.{List, ◌≤◌, length};
+    ghost use Rattle.std.specs.Coded.{codes};
+    ghost use Rattle.me_terms.specs.Terms.{arguments_code};
+    ghost use Rattle.me_terms.specs.Values.{EntryValue};
+    ghost use Rattle.me_terms.specs.Context.{IsContext};
+    ghost use Rattle.me_context.specs.Hiding.{AreHidden};
+
+    ghost Value = { List EntryValue };
+
+    ghost coded = { Prim.hlevel (codes, arguments_code) };
+
+    ghost view = { λ c. c.entries.items };
+
+    ghost use Rattle.me_context.specs.Views.{items_of};
+
+    ghost invariant = { λ c. IsContext c.entries.items × (length c.entries.items ≤ 65535) × AreHidden c.entries.items c.hidden_by.items (items_of c.hides.items) };
+}
+
+/// Room for one more item in each list, or nothing is changed where memory is out.
+fn make_room(
+    entries: &mut Vec<Entry>,
+    hidden_by: &mut Vec<Option<u32>>,
+    hides: &mut Vec<Places>,
+) -> Result<(), AllocError>
+    ensures entries { entries.new.items ≡ entries.old.items }
+    ensures hidden_by { hidden_by.new.items ≡ hidden_by.old.items }
+    ensures hides { hides.new.items ≡ hides.old.items }
+    ensures room { OnOk result ((vec_len entries.new < vec_capacity entries.new)
+        × (vec_len hidden_by.new < vec_capacity hidden_by.new)
+        × (vec_len hides.new < vec_capacity hides.new)) }
+{
+    entries.reserve(1)?;
+    hidden_by.reserve(1)?;
+    hides.reserve(1)?;
+    Ok(())
+}
+
+/// Takes the last item off.
+fn take_last<T>(items: &mut Vec<T>) -> T
+    requires { 0 < length items.old.items }
+    ensures { items.old.items ≡ items.new.items ++ result ∷ [] }
+{
+    match items.pop() {
+        Some(last) => last,
+        None => unreachable!(),
+    }
+}
+
+impl Context {
+    /// The context of the pseudo-literal alone. Later calls that need memory take it from `alloc`.
+    pub fn new(alloc: Global) -> Result<Self, AllocError>
+        ensures { IfOk result (λ context. context ≡ pseudo false ∷ []) }
+    {
+        Self::start(alloc, false)
+    }
+
+    /// The context of the pseudo-literal of a sign.
+    fn start(alloc: Global, positive: bool) -> Result<Self, AllocError>
+        ensures { IfOk result (λ context. context ≡ pseudo positive ∷ []) }
+    {
+        let entry = Entry {
+            positive,
+            atom: Pattern::Any,
+            kind: Kind::Parametric,
+            reason: Reason::Pseudo,
+        };
+        Ok(Context {
+            entries: vec![in alloc; entry]?,
+            hidden_by: vec![in alloc; None]?,
+            hides: vec![in alloc; Places::new(alloc)]?,
+        })
+    }
+
+    /// Puts an entry at the end, or hands it back where memory is out.
+    ///
+    /// The entry is a literal with a canonical atom, Universal where it is ground, and does not contradict
+    /// the context, which has fewer than 65,535 entries.
+    pub fn add(&mut self, e: Entry) -> Result<(), Refused>
+        requires literal { IsLiteralEntry e }
+        requires apart { ¬ Contradicts self.old e.positive e.kind e.atom }
+        requires room { length self.old < 65535 }
+        ensures ok { OnOk result (self.new ≡ add self.old e) }
+        ensures err { OnErr result (self.new ≡ self.old) }
+        ensures back { IfErr result (λ refused. refused.entry ≡ e) }
+    {
+        let alloc = *self.entries.allocator();
+        let Ok(places) = newly_hidden(alloc, &self.entries, &self.hidden_by, &e) else {
+            return Err(Refused { entry: e });
+        };
+        if make_room(&mut self.entries, &mut self.hidden_by, &mut self.hides).is_err() {
+            return Err(Refused { entry: e });
+        }
+        let position = self.entries.len() as u32;
+        mark(&mut self.hidden_by, places.as_slice(), Some(position));
+        self.hidden_by.push_reserved(None);
+        self.hides.push_reserved(places);
+        self.entries.push_reserved(e);
+        Ok(())
+    }
+
+    /// Takes the last entry off, unless the pseudo-literal stands alone. What the entry hid is visible again.
+    pub fn pop(&mut self) -> Option<Entry>
+        ensures taken { IfSome result (λ e. self.old ≡ add self.new e) }
+        ensures alone { IsNone result ↔ (length self.old ≡ 1) }
+        ensures kept { IsNone result → self.new ≡ self.old }
+    {
+        if self.entries.len() <= 1 {
+            return None;
+        }
+        let entry = take_last(&mut self.entries);
+        let _by = take_last(&mut self.hidden_by);
+        let places = take_last(&mut self.hides);
+        mark(&mut self.hidden_by, places.as_slice(), None);
+        Some(entry)
+    }
+}
+
+impl View for Context {
+    ghost context = { λ c. c };
+
+    fn len(&self) -> u32 {
+        self.entries.len() as u32
+    }
+
+    fn entry(&self, k: u32) -> Option<&Entry> {
+        self.entries.get(k as usize)
+    }
+
+    fn visible(&self, k: u32) -> bool {
+        is_shown(&self.hidden_by, k)
+    }
+}
+
+/// Copies of the entries.
+fn copy_entries(alloc: Global, entries: &[Entry]) -> Result<Vec<Entry>, AllocError>
+    ensures { IfOk result (λ copy. copy.items ≡ entries.now) }
+{
+    let mut copy = Vec::new(alloc);
+    for entry in entries {
+        copy.push(entry.again(alloc)?)?;
+    }
+    Ok(copy)
+}
+
+/// Copies of the lists of positions.
+fn copy_lists(alloc: Global, lists: &[Places]) -> Result<Vec<Places>, AllocError>
+    ensures { IfOk result (λ copy. items_of copy.items ≡ items_of lists.now) }
+{
+    let mut copy = Vec::new(alloc);
+    for list in lists {
+        copy.push(list.again(alloc)?)?;
+    }
+    Ok(copy)
+}
+
+impl Trunk for Context {
+    fn extend(&mut self, e: Entry) -> Result<(), Refused> {
+        self.add(e)
+    }
+
+    fn shrink(&mut self) -> bool {
+        self.pop().is_some()
+    }
+
+    fn again(&self, alloc: Global) -> Result<Self, AllocError> {
+        Ok(Context {
+            entries: copy_entries(alloc, &self.entries)?,
+            hidden_by: self.hidden_by.as_slice().to_vec(alloc)?,
+            hides: copy_lists(alloc, &self.hides)?,
+        })
+    }
+}
