@@ -1,7 +1,12 @@
-pub mod MoreNodes
+pub mod Bound
+pub mod Cut
 pub mod Forest
 pub mod Made
+pub mod MoreNodes
 pub mod MostGeneral
+pub mod Posed
+pub mod Ranked
 pub mod Solved
 pub mod Steps
 pub mod Visit
+pub mod Written

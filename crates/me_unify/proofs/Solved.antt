@@ -33,14 +33,14 @@ pub solved_free : (nodes : List Node) (l : Links) (n : Family) (k x : ℕ) → g
 solved_free nodes l n k x e = free_if _ _ _ e
 
 -- ---- depth does not matter behind the node's place
-colours_same : (g h : Colouring) (xs : List ℕ) → ((i : ℕ) → i < length xs → g (get_or xs i 0) ≡ h (get_or xs i 0)) → coloured g xs ≡ coloured h xs
+pub colours_same : (g h : Colouring) (xs : List ℕ) → ((i : ℕ) → i < length xs → g (get_or xs i 0) ≡ h (get_or xs i 0)) → coloured g xs ≡ coloured h xs
 colours_same g h [] e = refl
 colours_same g h (x ∷ xs) e =
     let first : g x ≡ h x = e 0 (omega arith) in
     let others = colours_same g h xs (λ i lt. e (suc i) (omega arith)) in
     λ i. Cons (first i) (others i)
 
-of_node_same : (n : Family) (g h : Colouring) (o : Option Node)
+pub of_node_same : (n : Family) (g h : Colouring) (o : Option Node)
     → ((f : ℕ) (args : Vec ℕ Global) → o ≡ Some (App f args) → (i : ℕ) → i < length args.items → g (get_or args.items i 0) ≡ h (get_or args.items i 0))
     → of_node n g o ≡ of_node n h o
 of_node_same n g h None e = refl

@@ -1,3 +1,5 @@
+pub mod Equations
 pub mod Linked
+pub mod Marks
 pub mod Nodes
 pub mod Ordered

@@ -69,3 +69,7 @@ solved nodes l t zero x = Var 0
 solved nodes l t (suc k) x =
     if (eqb (slice_index l.place.items x) NONE) then of_node t (solved nodes l t k) (slice_get nodes x)
     else solved nodes l t k (slice_index l.tos.items (slice_index l.place.items x))
+
+-- A node's term under a family.
+abbrev pub colour : List Node → Family → Colouring
+colour nodes t x = written nodes t (suc x) x

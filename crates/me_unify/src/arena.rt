@@ -1,16 +1,19 @@
 //! The nodes of the atoms of all equations, and the links between them.
 //!
 //! A variable of a space has one node. The atoms are copied into nodes once, and never again.
-ghost use Rattle.std.specs.Prelude.{◌≡◌, ℕ, ◌<◌, ◌↔◌, OnErr, IfOk, IsTrue, false, Some, [], length, slice_index, slice_get};
-ghost use Rattle.me_terms.specs.Substitutions.{Family, apply_term, apply_arguments, apply_atom};
+ghost use Rattle.std.specs.Prelude.{◌≡◌, ℕ, ◌<◌, ◌↔◌, OnErr, IfOk, IfSome, IsTrue, false, Some, None, [], length, take, slice_index, slice_get};
+ghost use Rattle.me_terms.specs.Substitutions.{Family, apply_term, apply_arguments};
 ghost use Rattle.me_terms.specs.Terms.{arguments_of, App as AppTerm};
 ghost use Rattle.me_terms.specs.TermViews.{term_value};
 ghost use Rattle.me_unify.specs.Linked.{Respects, Colouring, Fits, HasRoom, IsLonger, coloured};
 ghost use Rattle.me_unify.specs.Nodes.{IsArena, IsFresh, IsGrown};
 ghost use Rattle.me_unify.specs.Ordered.{HasOrder};
+ghost use Rattle.me_unify.specs.Equations.{equation};
+ghost use Rattle.me_unify.specs.Marks.{IsCut, IsMark, IsPosed, AreApart, IsBack};
 
 use crate::links::Links;
 use crate::node::Node;
+use crate::step::Sides;
 use me_terms::{Atom, Term, Terms};
 use std::alloc::{AllocError, Global};
 
@@ -24,6 +27,7 @@ pub(crate) struct Arena {
 impl Arena {
     pub(crate) fn new(alloc: Global) -> Arena
         ensures arena { IsArena result.nodes.items result.links }
+        ensures empty { result.nodes.items ≡ [] }
         ensures none { result.links.froms.items ≡ [] }
     {
         Arena {
@@ -107,7 +111,12 @@ impl Arena {
     }
 
     #[cycle(add)]
-    pub(crate) fn add_all(&mut self, alloc: Global, space: u32, terms: &Terms) -> Result<Vec<u32>, AllocError>
+    pub(crate) fn add_all(
+        &mut self,
+        alloc: Global,
+        space: u32,
+        terms: &Terms,
+    ) -> Result<Vec<u32>, AllocError>
         requires arena { IsArena self.old.nodes.items self.old.links }
         ensures arena { IsArena self.new.nodes.items self.new.links }
         ensures grown { IsGrown self.old.nodes.items self.new.nodes.items }
@@ -127,7 +136,12 @@ impl Arena {
         Ok(made)
     }
 
-    pub(crate) fn add_atom(&mut self, alloc: Global, space: u32, atom: &Atom) -> Result<u32, AllocError>
+    pub(crate) fn add_atom(
+        &mut self,
+        alloc: Global,
+        space: u32,
+        atom: &Atom,
+    ) -> Result<u32, AllocError>
         requires arena { IsArena self.old.nodes.items self.old.links }
         ensures arena { IsArena self.new.nodes.items self.new.links }
         ensures grown { IsGrown self.old.nodes.items self.new.nodes.items }
@@ -140,7 +154,8 @@ impl Arena {
         self.push(Node::App { f: atom.pred, args })
     }
 
-    /// The two atoms become equal, each with the variables of its space. False where nothing makes them equal, and then and after an error the links are as before.
+    /// The two atoms become equal, each with the variables of its space, and their nodes are the answer.
+    /// None where nothing makes them equal. It may leave nodes behind where it gives none.
     pub(crate) fn try_pose(
         &mut self,
         alloc: Global,
@@ -148,18 +163,65 @@ impl Arena {
         left: &Atom,
         rs: u32,
         right: &Atom,
-    ) -> Result<bool, AllocError>
+    ) -> Result<Option<Sides>, AllocError>
         requires arena { IsArena self.old.nodes.items self.old.links }
         ensures arena { IsArena self.new.nodes.items self.new.links }
         ensures grown { IsGrown self.old.nodes.items self.new.nodes.items }
-        ensures settled { IfOk result (λ answer. IsTrue answer → HasOrder self.new.nodes.items self.new.links) }
-        ensures yes { (t : Family) (h : Colouring) → Fits self.new.nodes.items t h → IfOk result (λ answer. IsTrue answer → (Respects self.old.links h × (apply_atom (t ls) left.now ≡ apply_atom (t rs) right.now)) ↔ Respects self.new.links h) }
-        ensures no { (t : Family) (h : Colouring) → Fits self.new.nodes.items t h → IfOk result (λ answer. answer ≡ false → Respects self.old.links h → ¬ (apply_atom (t ls) left.now ≡ apply_atom (t rs) right.now)) }
-        ensures back { IfOk result (λ answer. answer ≡ false → IsLonger self.new.links self.old.links) }
-        ensures err { OnErr result (IsLonger self.new.links self.old.links) }
+        ensures more { IsLonger self.old.links self.new.links }
+        ensures some { IfOk result (λ answer. IfSome answer (λ sides. IsPosed self.old.nodes.items self.old.links self.new.nodes.items self.new.links (equation ls left.now rs right.now) sides)) }
+        ensures none { IfOk result (λ answer. answer ≡ None → AreApart self.old.nodes.items self.old.links (equation ls left.now rs right.now)) }
     {
-        let a = self.add_atom(alloc, ls, left)?;
-        let b = self.add_atom(alloc, rs, right)?;
-        self.equate(alloc, a, b)
+        let left = self.add_atom(alloc, ls, left)?;
+        let right = self.add_atom(alloc, rs, right)?;
+        let equal = self.equate(alloc, left, right)?;
+        if equal {
+            Ok(Some(Sides { left, right }))
+        } else {
+            Ok(None)
+        }
+    }
+
+    /// Takes away all nodes but the first `nodes` and all links but the first `links`.
+    pub(crate) fn cut(&mut self, nodes: usize, links: usize)
+        requires arena { IsArena self.old.nodes.items self.old.links }
+        requires mark { IsMark self.old.nodes.items self.old.links nodes links }
+        ensures arena { IsArena self.new.nodes.items self.new.links }
+        ensures nodes { self.new.nodes.items ≡ take nodes self.old.nodes.items }
+        ensures links { IsCut self.old.links links self.new.links }
+    {
+        self.links.undo(links);
+        self.links.shrink(nodes);
+        self.nodes.truncate(nodes);
+    }
+
+    /// As `try_pose`, but where it gives no nodes, and after an error, all is as before.
+    pub(crate) fn pose(
+        &mut self,
+        alloc: Global,
+        ls: u32,
+        left: &Atom,
+        rs: u32,
+        right: &Atom,
+    ) -> Result<Option<Sides>, AllocError>
+        requires arena { IsArena self.old.nodes.items self.old.links }
+        ensures arena { IsArena self.new.nodes.items self.new.links }
+        ensures some { IfOk result (λ answer. IfSome answer (λ sides. IsPosed self.old.nodes.items self.old.links self.new.nodes.items self.new.links (equation ls left.now rs right.now) sides)) }
+        ensures none { IfOk result (λ answer. answer ≡ None → AreApart self.old.nodes.items self.old.links (equation ls left.now rs right.now)) }
+        ensures kept { IfOk result (λ answer. answer ≡ None → IsBack self.old.nodes.items self.old.links self.new.nodes.items self.new.links) }
+        ensures err { OnErr result (IsBack self.old.nodes.items self.old.links self.new.nodes.items self.new.links) }
+    {
+        let nodes = self.nodes.len();
+        let links = self.links.froms.len();
+        match self.try_pose(alloc, ls, left, rs, right) {
+            Ok(Some(sides)) => Ok(Some(sides)),
+            Ok(None) => {
+                self.cut(nodes, links);
+                Ok(None)
+            }
+            Err(error) => {
+                self.cut(nodes, links);
+                Err(error)
+            }
+        }
     }
 }

@@ -11,7 +11,12 @@ use std::alloc::AllocError;
 
 impl Links {
     /// Makes arguments equal, one by one.
-    pub(crate) fn join_all(&mut self, nodes: &[Node], xs: &[u32], ys: &[u32]) -> Result<(), AllocError>
+    pub(crate) fn join_all(
+        &mut self,
+        nodes: &[Node],
+        xs: &[u32],
+        ys: &[u32],
+    ) -> Result<(), AllocError>
         requires forest { IsForest self.old }
         requires nodes { length nodes.now ≡ length self.old.place.items }
         requires lengths { length xs.now ≡ length ys.now }

@@ -5,8 +5,12 @@
 #![tactic(auto)]
 
 mod arena;
+mod bindings;
 mod closure;
 mod equate;
 mod links;
 mod node;
 mod order;
+mod step;
+
+pub use bindings::Bindings;

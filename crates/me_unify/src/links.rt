@@ -149,4 +149,18 @@ impl Links {
             self.unlink();
         }
     }
+
+    /// Forgets all nodes but the first `size`. Those are not linked.
+    pub(crate) fn shrink(&mut self, size: usize)
+        requires forest { IsForest self.old }
+        requires within { size ≤ length self.old.place.items }
+        requires from { (k : ℕ) → k < length self.old.froms.items → slice_index self.old.froms.items k < size }
+        requires to { (k : ℕ) → k < length self.old.froms.items → slice_index self.old.tos.items k < size }
+        ensures forest { IsForest self.new }
+        ensures size { length self.new.place.items ≡ size }
+        ensures froms { self.new.froms.items ≡ self.old.froms.items }
+        ensures tos { self.new.tos.items ≡ self.old.tos.items }
+    {
+        self.place.truncate(size);
+    }
 }

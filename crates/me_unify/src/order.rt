@@ -43,7 +43,13 @@ impl Links {
     }
 
     #[cycle(visit)]
-    pub(crate) fn visit_below(&self, nodes: &[Node], order: &mut [u64], count: &mut u64, x: u32) -> bool
+    pub(crate) fn visit_below(
+        &self,
+        nodes: &[Node],
+        order: &mut [u64],
+        count: &mut u64,
+        x: u32,
+    ) -> bool
         requires forest { IsForest self.now }
         requires nodes { length nodes.now ≡ length self.now.place.items }
         requires fit { AreNodes nodes.now }
@@ -67,7 +73,13 @@ impl Links {
     }
 
     #[cycle(visit)]
-    pub(crate) fn visit_all(&self, nodes: &[Node], order: &mut [u64], count: &mut u64, xs: &[u32]) -> bool
+    pub(crate) fn visit_all(
+        &self,
+        nodes: &[Node],
+        order: &mut [u64],
+        count: &mut u64,
+        xs: &[u32],
+    ) -> bool
         requires forest { IsForest self.now }
         requires nodes { length nodes.now ≡ length self.now.place.items }
         requires fit { AreNodes nodes.now }
