@@ -14,3 +14,6 @@ mod order;
 mod step;
 
 pub use bindings::Bindings;
+
+#[cfg(test)]
+mod tests;

@@ -1,0 +1,8 @@
+//! Variants, generality and canonical forms of literals.
+//!
+//! What is asked of two atoms takes no memory. A canonical form is written in one pass.
+#![tactic(auto)]
+
+mod canonical_form;
+
+pub use canonical_form::canonical;
