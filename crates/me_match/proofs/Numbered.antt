@@ -84,7 +84,7 @@ join_end : (xs : List TermValue) → join xs Nil ≡ arguments_of xs
 join_end [] = refl
 join_end (x ∷ xs) = ap (Cons x) (join_end xs)
 
-drop_at : (xs : List TermValue) (k : ℕ) (x : TermValue) → slice_get xs k ≡ Some x → drop k xs ≡ x ∷ drop (k + 1) xs
+pub drop_at : (xs : List TermValue) (k : ℕ) (x : TermValue) → slice_get xs k ≡ Some x → drop k xs ≡ x ∷ drop (k + 1) xs
 drop_at xs k x e =
     let within : k < length xs = slice_get_within xs k x e in
     drop_more xs k x within ∙ ap (λ z. z ∷ drop (k + 1) xs) (get_or_from_slice_get xs k x x e)

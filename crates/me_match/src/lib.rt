@@ -4,5 +4,10 @@
 #![tactic(auto)]
 
 mod canonical_form;
+mod generality;
 
 pub use canonical_form::canonical;
+pub use generality::{generalizes, is_variant, strictly_more_general};
+
+#[cfg(test)]
+mod tests;

@@ -89,7 +89,7 @@ stage_cut nodes l c n m j k es q cut le jn km = record {
 }
 
 -- what the links say now
-says : (nodes : List Node) (l : Links) (steps : List Step) → AreBound nodes l steps → (t : Family) (h : Colouring) → Fits nodes t h → Respects l h ↔ SolvesAll t (equations_of nodes steps)
+pub says : (nodes : List Node) (l : Links) (steps : List Step) → AreBound nodes l steps → (t : Family) (h : Colouring) → Fits nodes t h → Respects l h ↔ SolvesAll t (equations_of nodes steps)
 says nodes l steps b t h fits = b.last.same l (cut_itself l) t h (λ x v lt e. fits x v e)
 
 -- ---- the links have a most general unifier, and no solution where the last equation has none

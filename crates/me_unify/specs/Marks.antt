@@ -83,10 +83,13 @@ pub record IsWithin (s : Step) (n m : ℕ) : Type 0 where
   pub nodes : s.nodes ≤ n
   pub links : s.links ≤ m
 
+abbrev pub IsSolved : List Node → Links → Type 0
+IsSolved nodes l = (u : Family) × ((h : Colouring) × (Fits nodes u h × Respects l h))
+
 -- The links have a solution, and say what the equations say: all of them, and those before each step.
 pub record AreBound (nodes : List Node) (l : Links) (steps : List Step) : Type 0 where
   pub arena : IsArena nodes l
-  pub solution : (u : Family) × ((h : Colouring) × (Fits nodes u h × Respects l h))
+  pub solution : IsSolved nodes l
   pub last : IsStage nodes l (length nodes) (length l.froms.items) (equations_of nodes steps)
   pub before : (k : ℕ) (s : Step) → slice_get steps k ≡ Some s → IsStage nodes l s.nodes s.links (take k (equations_of nodes steps))
   pub within : (k : ℕ) (s : Step) → slice_get steps k ≡ Some s → IsWithin s (length nodes) (length l.froms.items)

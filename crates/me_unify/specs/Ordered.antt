@@ -1,5 +1,5 @@
 -- An order of the nodes in which each node stands behind what its term is made of.
-use Rattle.std.specs.Prelude.{◌≡◌, ℕ, ◌+◌, ◌<◌, ◌≤◌, ◌≢◌, ◌⊎◌, zero, suc, eqb, ltb, List, length, map, slice_index, slice_get, Option, Some, None, count_by, Vec, if◌then◌else◌}
+use Rattle.std.specs.Prelude.{◌≡◌, ℕ, ◌+◌, ◌-◌, ◌<◌, ◌≤◌, ◌≢◌, ◌⊎◌, zero, suc, eqb, ltb, List, length, map, slice_index, slice_get, Option, Some, None, count_by, Vec, if◌then◌else◌}
 use Rattle.std.specs.declared.alloc.Global.{Global}
 use Rattle.me_terms.specs.Terms.{TermValue, Var, App, arguments_of, height}
 use Rattle.me_unify.specs.declared.links.Links.{Links}
@@ -19,12 +19,16 @@ pub record LeadsTo (nodes : List Node) (l : Links) (order : List ℕ) (n x : ℕ
       → (i : ℕ) → i < length args.items → IsBefore order n (slice_index args.items i)
 
 -- Marks: 0 for a node that was not seen, 1 for one that is open, and else the place of a node that is done.
-pub record IsOrdered (nodes : List Node) (l : Links) (order : List ℕ) (count : ℕ) : Type 0 where
+-- The list has the nodes that are done by their places.
+pub record IsOrdered (nodes : List Node) (l : Links) (order : List ℕ) (count : ℕ) (list : List ℕ) : Type 0 where
   pub sized : length order ≡ length nodes
   pub above : 2 ≤ count
   pub room : count + count_by (λ m. ltb m 2) order ≤ length order + 2
   pub below : (x : ℕ) → x < length order → 2 ≤ slice_index order x → slice_index order x < count
   pub done : (x : ℕ) → x < length order → 2 ≤ slice_index order x → LeadsTo nodes l order (slice_index order x) x
+  pub listed_size : length list ≡ length nodes
+  pub listed : (x : ℕ) → x < length order → 2 ≤ slice_index order x → slice_index list (slice_index order x - 2) ≡ x
+  pub placed : (p : ℕ) → p + 2 < count → (slice_index list p < length order) × (slice_index order (slice_index list p) ≡ p + 2)
 
 pub record IsKept (old new : List ℕ) : Type 0 where
   pub done : (x : ℕ) → x < length old → 2 ≤ slice_index old x → slice_index new x ≡ slice_index old x
@@ -50,6 +54,13 @@ pub record IsSettled (nodes : List Node) (l : Links) (rank : ℕ → ℕ) (limit
 
 abbrev pub HasOrder : List Node → Links → Type 0
 HasOrder nodes l = (rank : ℕ → ℕ) × ((limit : ℕ) × IsSettled nodes l rank limit)
+
+-- The nodes in the order of the ranks, which are their places in the list.
+pub record IsSequence (nodes : List Node) (l : Links) (list : List ℕ) : Type 0 where
+  pub rank : ℕ → ℕ
+  pub settled : IsSettled nodes l rank (length list)
+  pub listed : (x : ℕ) → x < length nodes → slice_index list (rank x) ≡ x
+  pub placed : (p : ℕ) → p < length list → (slice_index list p < length nodes) × (rank (slice_index list p) ≡ p)
 
 -- ---- the terms of nodes
 -- What stands at the top, over the terms of the nodes below.

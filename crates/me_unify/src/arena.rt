@@ -9,9 +9,11 @@ ghost use Rattle.me_unify.specs.Linked.{Respects, Colouring, Fits, HasRoom, IsLo
 ghost use Rattle.me_unify.specs.Nodes.{IsArena, IsFresh, IsGrown};
 ghost use Rattle.me_unify.specs.Ordered.{HasOrder};
 ghost use Rattle.me_unify.specs.Equations.{equation};
-ghost use Rattle.me_unify.specs.Marks.{IsCut, IsMark, IsPosed, AreApart, IsBack};
+ghost use Rattle.me_unify.specs.Measured.{AreMeasured, IsReading};
+ghost use Rattle.me_unify.specs.Marks.{IsSolved, IsCut, IsMark, IsPosed, AreApart, IsBack};
 
 use crate::links::Links;
+use crate::measure::{Measure, measure_all};
 use crate::node::Node;
 use crate::step::Sides;
 use me_terms::{Atom, Term, Terms};
@@ -223,5 +225,28 @@ impl Arena {
                 Err(error)
             }
         }
+    }
+
+    /// What is counted of terms with the variables of a space, under the links. It may leave nodes behind.
+    pub(crate) fn measure_terms(
+        &mut self,
+        alloc: Global,
+        space: u32,
+        terms: &Terms,
+    ) -> Result<Measure, AllocError>
+        requires arena { IsArena self.old.nodes.items self.old.links }
+        requires solution { IsSolved self.old.nodes.items self.old.links }
+        ensures arena { IsArena self.new.nodes.items self.new.links }
+        ensures grown { IsGrown self.old.nodes.items self.new.nodes.items }
+        ensures measure { IfOk result (λ m. (t : Family) (h : Colouring) → Fits self.new.nodes.items t h → IsReading self.new.nodes.items self.new.links h → AreMeasured (apply_arguments (t space) (arguments_of terms.now.items)) m) }
+        ensures froms { self.new.links.froms.items ≡ self.old.links.froms.items }
+        ensures tos { self.new.links.tos.items ≡ self.old.links.tos.items }
+    {
+        let xs = self.add_all(alloc, space, terms)?;
+        let Some(list) = self.links.ordered(alloc, &self.nodes)? else {
+            unreachable!();
+        };
+        let measures = self.links.measures(alloc, &self.nodes, &list)?;
+        Ok(measure_all(&measures, &xs))
     }
 }

@@ -3,10 +3,12 @@
 //! A contract sees the equations in the order in which they were added. They always have a solution, so
 //! that all of the unifier that does not depend on the names of its variables is determined by them.
 ghost use Rattle.std.specs.Prelude.{◌≡◌, ◌∷◌, [], ◌++◌, ◌≤◌, ◌↔◌, OnErr, IfOk, IsTrue, false, length, take};
-ghost use Rattle.me_terms.specs.Substitutions.{Family};
+ghost use Rattle.me_terms.specs.Substitutions.{Family, apply_atom};
+ghost use Rattle.me_unify.specs.Measured.{IsAtomMeasure};
 ghost use Rattle.me_unify.specs.Equations.{equation, IsSolvable, IsMostGeneral};
 
 use crate::arena::Arena;
+use crate::measure::Measure;
 use crate::step::Step;
 use me_terms::Atom;
 use std::alloc::{AllocError, Global};
@@ -96,5 +98,23 @@ impl Bindings {
             }
             None => Ok(false),
         }
+    }
+
+    /// What is counted of an atom with the variables of a space, under the unifier of the equations: its
+    /// weight, its depth and whether it is ground. No term is written out, and the equations stay.
+    pub fn measure(&mut self, space: u32, atom: &Atom) -> Result<Measure, AllocError>
+        ensures kept { self.new ≡ self.old }
+        ensures measure { IfOk result (λ m. (u : Family) → IsMostGeneral self.old u → IsAtomMeasure (apply_atom (u space) atom.now) m) }
+    {
+        let nodes = self.arena.nodes.len();
+        let links = self.arena.links.froms.len();
+        let result = self.arena.measure_terms(self.alloc, space, &atom.args);
+        self.arena.cut(nodes, links);
+        let all = result?;
+        Ok(Measure {
+            weight: all.weight.saturating_add(1),
+            depth: all.depth,
+            ground: all.ground,
+        })
     }
 }

@@ -9,11 +9,13 @@ mod bindings;
 mod closure;
 mod equate;
 mod links;
+mod measure;
 mod node;
 mod order;
 mod step;
 
 pub use bindings::Bindings;
+pub use measure::Measure;
 
 #[cfg(test)]
 mod tests;

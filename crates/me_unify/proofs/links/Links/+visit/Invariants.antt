@@ -14,7 +14,7 @@ decreases-visit_all l = 3 * count_by (λ m. eqb m 0) l.order.now + 1
 
 abbrev pub invariant-visit_all-loop-i : goal.invariant-visit_all-loop-i
 invariant-visit_all-loop-i l = record {
-  ordered : IsOrdered l.nodes l.self l.order l.count;
+  ordered : IsOrdered l.nodes l.self l.order l.count l.list;
   kept : IsKept l.initial.order l.order;
   done : (i : ℕ) → i < l.i → 2 ≤ get_or l.order (get_or l.xs i 0) 0;
 }
