@@ -1,0 +1,14 @@
+pub mod Bound
+pub mod Cut
+pub mod Forest
+pub mod Made
+pub mod Measures
+pub mod MoreNodes
+pub mod MostGeneral
+pub mod Posed
+pub mod Ranked
+pub mod Read
+pub mod Solved
+pub mod Steps
+pub mod Visit
+pub mod Written

@@ -1,0 +1,6 @@
+pub mod Equations
+pub mod Linked
+pub mod Marks
+pub mod Measured
+pub mod Nodes
+pub mod Ordered

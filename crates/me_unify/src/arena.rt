@@ -1,0 +1,252 @@
+//! The nodes of the atoms of all equations, and the links between them.
+//!
+//! A variable of a space has one node. The atoms are copied into nodes once, and never again.
+ghost use Rattle.std.specs.Prelude.{◌≡◌, ℕ, ◌<◌, ◌↔◌, OnErr, IfOk, IfSome, IsTrue, false, Some, None, [], length, take, slice_index, slice_get};
+ghost use Rattle.me_terms.specs.Substitutions.{Family, apply_term, apply_arguments};
+ghost use Rattle.me_terms.specs.Terms.{arguments_of, App as AppTerm};
+ghost use Rattle.me_terms.specs.TermViews.{term_value};
+ghost use Rattle.me_unify.specs.Linked.{Respects, Colouring, Fits, HasRoom, IsLonger, coloured};
+ghost use Rattle.me_unify.specs.Nodes.{IsArena, IsFresh, IsGrown};
+ghost use Rattle.me_unify.specs.Ordered.{HasOrder};
+ghost use Rattle.me_unify.specs.Equations.{equation};
+ghost use Rattle.me_unify.specs.Measured.{AreMeasured, IsReading};
+ghost use Rattle.me_unify.specs.Marks.{IsSolved, IsCut, IsMark, IsPosed, AreApart, IsBack};
+
+use crate::links::Links;
+use crate::measure::{Measure, measure_all};
+use crate::node::Node;
+use crate::step::Sides;
+use me_terms::{Atom, Term, Terms};
+use std::alloc::{AllocError, Global};
+
+/// The nodes of all equations so far, and which of them are equal.
+#[derive(Drop)]
+pub(crate) struct Arena {
+    pub(crate) nodes: Vec<Node>,
+    pub(crate) links: Links,
+}
+
+impl Arena {
+    pub(crate) fn new(alloc: Global) -> Arena
+        ensures arena { IsArena result.nodes.items result.links }
+        ensures empty { result.nodes.items ≡ [] }
+        ensures none { result.links.froms.items ≡ [] }
+    {
+        Arena {
+            nodes: Vec::new(alloc),
+            links: Links::new(alloc),
+        }
+    }
+
+    /// Adds a node.
+    pub(crate) fn push(&mut self, node: Node) -> Result<u32, AllocError>
+        requires arena { IsArena self.old.nodes.items self.old.links }
+        requires room { HasRoom (length self.old.nodes.items) node }
+        requires fresh { IsFresh self.old.nodes.items node }
+        ensures arena { IsArena self.new.nodes.items self.new.links }
+        ensures grown { IsGrown self.old.nodes.items self.new.nodes.items }
+        ensures at { IfOk result (λ x. slice_get self.new.nodes.items x ≡ Some node) }
+        ensures froms { self.new.links.froms.items ≡ self.old.links.froms.items }
+        ensures tos { self.new.links.tos.items ≡ self.old.links.tos.items }
+    {
+        self.nodes.reserve(1)?;
+        self.links.grow()?;
+        let x = self.nodes.len() as u32;
+        self.nodes.push_reserved(node);
+        Ok(x)
+    }
+
+    /// The node of a variable.
+    pub(crate) fn var(&mut self, space: u32, var: u32) -> Result<u32, AllocError>
+        requires arena { IsArena self.old.nodes.items self.old.links }
+        ensures arena { IsArena self.new.nodes.items self.new.links }
+        ensures grown { IsGrown self.old.nodes.items self.new.nodes.items }
+        ensures at { IfOk result (λ x. slice_get self.new.nodes.items x ≡ Some (Node.Var space var)) }
+        ensures froms { self.new.links.froms.items ≡ self.old.links.froms.items }
+        ensures tos { self.new.links.tos.items ≡ self.old.links.tos.items }
+    {
+        for x in 0..self.nodes.len() {
+            if let Node::Var { space: i, var: v } = &self.nodes[x] {
+                if *i == space && *v == var {
+                    return Ok(x as u32);
+                }
+            }
+        }
+        self.push(Node::Var { space, var })
+    }
+
+    /// The two nodes become equal, or the links stay and nothing makes them equal.
+    pub(crate) fn equate(&mut self, alloc: Global, x: u32, y: u32) -> Result<bool, AllocError>
+        requires arena { IsArena self.old.nodes.items self.old.links }
+        requires left { x < length self.old.nodes.items }
+        requires right { y < length self.old.nodes.items }
+        ensures arena { IsArena self.new.nodes.items self.new.links }
+        ensures nodes { self.new.nodes.items ≡ self.old.nodes.items }
+        ensures more { IsLonger self.old.links self.new.links }
+        ensures settled { IfOk result (λ answer. IsTrue answer → HasOrder self.new.nodes.items self.new.links) }
+        ensures yes { IfOk result (λ answer. IsTrue answer → (t : Family) (h : Colouring) → Fits self.old.nodes.items t h → (Respects self.old.links h × (h x ≡ h y)) ↔ Respects self.new.links h) }
+        ensures no { IfOk result (λ answer. answer ≡ false → (t : Family) (h : Colouring) → Fits self.old.nodes.items t h → Respects self.old.links h → ¬ (h x ≡ h y)) }
+        ensures back { IfOk result (λ answer. answer ≡ false → IsLonger self.new.links self.old.links) }
+        ensures err { OnErr result (IsLonger self.new.links self.old.links) }
+    {
+        self.links.equate(alloc, &self.nodes, x, y)
+    }
+
+    /// A node whose term is the given one, with the variables of a space.
+    #[cycle(add)]
+    pub(crate) fn add(&mut self, alloc: Global, space: u32, term: &Term) -> Result<u32, AllocError>
+        requires arena { IsArena self.old.nodes.items self.old.links }
+        ensures arena { IsArena self.new.nodes.items self.new.links }
+        ensures grown { IsGrown self.old.nodes.items self.new.nodes.items }
+        ensures within { IfOk result (λ x. x < length self.new.nodes.items) }
+        ensures made { (t : Family) (h : Colouring) → Fits self.new.nodes.items t h → IfOk result (λ x. h x ≡ apply_term (t space) (term_value term.now)) }
+        ensures froms { self.new.links.froms.items ≡ self.old.links.froms.items }
+        ensures tos { self.new.links.tos.items ≡ self.old.links.tos.items }
+    {
+        match term {
+            Term::Var(x) => self.var(space, *x),
+            Term::App { f, args } => {
+                let args = self.add_all(alloc, space, args)?;
+                self.push(Node::App { f: *f, args })
+            }
+        }
+    }
+
+    #[cycle(add)]
+    pub(crate) fn add_all(
+        &mut self,
+        alloc: Global,
+        space: u32,
+        terms: &Terms,
+    ) -> Result<Vec<u32>, AllocError>
+        requires arena { IsArena self.old.nodes.items self.old.links }
+        ensures arena { IsArena self.new.nodes.items self.new.links }
+        ensures grown { IsGrown self.old.nodes.items self.new.nodes.items }
+        ensures within { IfOk result (λ xs. (i : ℕ) → i < length xs.items → slice_index xs.items i < length self.new.nodes.items) }
+        ensures made { (t : Family) (h : Colouring) → Fits self.new.nodes.items t h → IfOk result (λ xs. coloured h xs.items ≡ apply_arguments (t space) (arguments_of terms.now.items)) }
+        ensures froms { self.new.links.froms.items ≡ self.old.links.froms.items }
+        ensures tos { self.new.links.tos.items ≡ self.old.links.tos.items }
+    {
+        let mut made = Vec::new(alloc);
+        for k in 0..terms.len() {
+            let Some(term) = terms.get(k) else {
+                unreachable!();
+            };
+            let x = self.add(alloc, space, term)?;
+            made.push(x)?;
+        }
+        Ok(made)
+    }
+
+    pub(crate) fn add_atom(
+        &mut self,
+        alloc: Global,
+        space: u32,
+        atom: &Atom,
+    ) -> Result<u32, AllocError>
+        requires arena { IsArena self.old.nodes.items self.old.links }
+        ensures arena { IsArena self.new.nodes.items self.new.links }
+        ensures grown { IsGrown self.old.nodes.items self.new.nodes.items }
+        ensures at { IfOk result (λ x. x < length self.new.nodes.items) }
+        ensures made { (t : Family) (h : Colouring) → Fits self.new.nodes.items t h → IfOk result (λ x. h x ≡ AppTerm atom.now.pred (apply_arguments (t space) atom.now.args)) }
+        ensures froms { self.new.links.froms.items ≡ self.old.links.froms.items }
+        ensures tos { self.new.links.tos.items ≡ self.old.links.tos.items }
+    {
+        let args = self.add_all(alloc, space, &atom.args)?;
+        self.push(Node::App { f: atom.pred, args })
+    }
+
+    /// The two atoms become equal, each with the variables of its space, and their nodes are the answer.
+    /// None where nothing makes them equal. It may leave nodes behind where it gives none.
+    pub(crate) fn try_pose(
+        &mut self,
+        alloc: Global,
+        ls: u32,
+        left: &Atom,
+        rs: u32,
+        right: &Atom,
+    ) -> Result<Option<Sides>, AllocError>
+        requires arena { IsArena self.old.nodes.items self.old.links }
+        ensures arena { IsArena self.new.nodes.items self.new.links }
+        ensures grown { IsGrown self.old.nodes.items self.new.nodes.items }
+        ensures more { IsLonger self.old.links self.new.links }
+        ensures some { IfOk result (λ answer. IfSome answer (λ sides. IsPosed self.old.nodes.items self.old.links self.new.nodes.items self.new.links (equation ls left.now rs right.now) sides)) }
+        ensures none { IfOk result (λ answer. answer ≡ None → AreApart self.old.nodes.items self.old.links (equation ls left.now rs right.now)) }
+    {
+        let left = self.add_atom(alloc, ls, left)?;
+        let right = self.add_atom(alloc, rs, right)?;
+        let equal = self.equate(alloc, left, right)?;
+        if equal {
+            Ok(Some(Sides { left, right }))
+        } else {
+            Ok(None)
+        }
+    }
+
+    /// Takes away all nodes but the first `nodes` and all links but the first `links`.
+    pub(crate) fn cut(&mut self, nodes: usize, links: usize)
+        requires arena { IsArena self.old.nodes.items self.old.links }
+        requires mark { IsMark self.old.nodes.items self.old.links nodes links }
+        ensures arena { IsArena self.new.nodes.items self.new.links }
+        ensures nodes { self.new.nodes.items ≡ take nodes self.old.nodes.items }
+        ensures links { IsCut self.old.links links self.new.links }
+    {
+        self.links.undo(links);
+        self.links.shrink(nodes);
+        self.nodes.truncate(nodes);
+    }
+
+    /// As `try_pose`, but where it gives no nodes, and after an error, all is as before.
+    pub(crate) fn pose(
+        &mut self,
+        alloc: Global,
+        ls: u32,
+        left: &Atom,
+        rs: u32,
+        right: &Atom,
+    ) -> Result<Option<Sides>, AllocError>
+        requires arena { IsArena self.old.nodes.items self.old.links }
+        ensures arena { IsArena self.new.nodes.items self.new.links }
+        ensures some { IfOk result (λ answer. IfSome answer (λ sides. IsPosed self.old.nodes.items self.old.links self.new.nodes.items self.new.links (equation ls left.now rs right.now) sides)) }
+        ensures none { IfOk result (λ answer. answer ≡ None → AreApart self.old.nodes.items self.old.links (equation ls left.now rs right.now)) }
+        ensures kept { IfOk result (λ answer. answer ≡ None → IsBack self.old.nodes.items self.old.links self.new.nodes.items self.new.links) }
+        ensures err { OnErr result (IsBack self.old.nodes.items self.old.links self.new.nodes.items self.new.links) }
+    {
+        let nodes = self.nodes.len();
+        let links = self.links.froms.len();
+        match self.try_pose(alloc, ls, left, rs, right) {
+            Ok(Some(sides)) => Ok(Some(sides)),
+            Ok(None) => {
+                self.cut(nodes, links);
+                Ok(None)
+            }
+            Err(error) => {
+                self.cut(nodes, links);
+                Err(error)
+            }
+        }
+    }
+
+    /// What is counted of terms with the variables of a space, under the links. It may leave nodes behind.
+    pub(crate) fn measure_terms(
+        &mut self,
+        alloc: Global,
+        space: u32,
+        terms: &Terms,
+    ) -> Result<Measure, AllocError>
+        requires arena { IsArena self.old.nodes.items self.old.links }
+        requires solution { IsSolved self.old.nodes.items self.old.links }
+        ensures arena { IsArena self.new.nodes.items self.new.links }
+        ensures grown { IsGrown self.old.nodes.items self.new.nodes.items }
+        ensures measure { IfOk result (λ m. (t : Family) (h : Colouring) → Fits self.new.nodes.items t h → IsReading self.new.nodes.items self.new.links h → AreMeasured (apply_arguments (t space) (arguments_of terms.now.items)) m) }
+        ensures froms { self.new.links.froms.items ≡ self.old.links.froms.items }
+        ensures tos { self.new.links.tos.items ≡ self.old.links.tos.items }
+    {
+        let xs = self.add_all(alloc, space, terms)?;
+        let Some(list) = self.links.ordered(alloc, &self.nodes)? else {
+            unreachable!();
+        };
+        let measures = self.links.measures(alloc, &self.nodes, &list)?;
+        Ok(measure_all(&measures, &xs))
+    }
+}

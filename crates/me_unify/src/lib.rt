@@ -1,0 +1,21 @@
+//! Unification of atoms whose variables are those of a space.
+//!
+//! Equations are added one by one and taken back to any earlier number of them. The answer is exact, and
+//! no term is written out: a chain of terms that double costs what its nodes cost.
+#![tactic(auto)]
+
+mod arena;
+mod bindings;
+mod closure;
+mod equate;
+mod links;
+mod measure;
+mod node;
+mod order;
+mod step;
+
+pub use bindings::Bindings;
+pub use measure::Measure;
+
+#[cfg(test)]
+mod tests;
