@@ -25,11 +25,7 @@ pub fn canonical(alloc: Global, lit: &Literal) -> Result<Literal, AllocError>
     })
 }
 
-fn numbered_atom(
-    alloc: Global,
-    names: &mut IndexSet<u32>,
-    atom: &Atom,
-) -> Result<Atom, AllocError>
+fn numbered_atom(alloc: Global, names: &mut IndexSet<u32>, atom: &Atom) -> Result<Atom, AllocError>
     requires { names.old.keys ≡ [] }
     ensures { IfOk result (λ form. form ≡ canonical_atom atom.now) }
 {
