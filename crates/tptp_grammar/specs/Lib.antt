@@ -1,0 +1,10 @@
+pub mod Terminals
+pub mod Written
+pub mod Printed
+pub mod Limits
+pub mod Files
+pub mod Refusals
+pub mod Machine
+pub mod Readings
+pub mod Views
+pub mod MachineViews
