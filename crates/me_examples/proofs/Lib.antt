@@ -4,10 +4,15 @@ pub mod ContradictionCases
 pub mod FirstList
 pub mod FirstRunAnswer
 pub mod GroundLists
+pub mod HiddenCounted
 pub mod HiddenEntry
+pub mod LeftVariable
 pub mod MergedVariables
+pub mod OneVariable
 pub mod OrderOfCandidates
+pub mod ParametricAssert
 pub mod QueueOrder
+pub mod RepeatedInstance
 pub mod SharpeningCases
 pub mod Short
 pub mod SmallAnswers

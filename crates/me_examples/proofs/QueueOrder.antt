@@ -63,7 +63,7 @@ p_asked = record {
 }
 
 -- what was asked for at other positions alone was not asked for
-fresh : (before : List Demand) (d : Demand) → EachOf (λ (x : Demand). x.0 ≡ d.0 → ⊥) before → ¬ Contains before d
+pub fresh : (before : List Demand) (d : Demand) → EachOf (λ (x : Demand). x.0 ≡ d.0 → ⊥) before → ¬ Contains before d
 fresh before d others h = each_contains (λ (x : Demand). x.0 ≡ d.0 → ⊥) before d others h refl
 
 pub queue_order : QueueOrder

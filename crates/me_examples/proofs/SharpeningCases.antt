@@ -12,7 +12,7 @@ use Rattle.me_examples.specs.SmallAnswers.{clause_of}
 use Rattle.me_examples.specs.Sharpening.{beside, parametric_p, universal_p, Sharpening}
 use Rattle.me_examples.proofs.Short.{each_entry, seen, skipped_opposite, skipped_unifier}
 
-last_visible : (e : EntryValue) → IsVisible (beside e) 1 e
+pub last_visible : (e : EntryValue) → IsVisible (beside e) 1 e
 last_visible e = seen (beside e) 1 e refl ((λ lt u s g. absurd (omega (arith, lt))), ((λ lt u s g. absurd (omega (arith, lt))), tt))
 
 pub sharpening : Sharpening

@@ -43,6 +43,12 @@ ab_not_produced h =
     ((λ g. cc g.same_sign), ((λ g. elim g.undisputed as (λ _. ⊥) [ inl u ↦ cc u | inr free ↦ free exception ]), ((λ g. cc g.same_sign), tt)))
     h.0 h.1 h.2.visible.0 h.2
 
+ba_not_produced : ¬ IsProduced three (literal true (p b a))
+ba_not_produced h =
+    each_entry (λ k f. Produces three k f (literal true (p b a)) → ⊥) three
+    ((λ g. cc g.same_sign), ((λ g. no_instance (p a x0) (p b a) refl g.generalizes), ((λ g. cc g.same_sign), tt)))
+    h.0 h.1 h.2.visible.0 h.2
+
 aa_by_1 : Produces three 1 parametric_entry (literal true (p a a))
 aa_by_1 = record { visible = visible_1; same_sign = refl; generalizes = (λ x. a, refl); undisputed = inr (λ ex. aa_free ex) }
 
@@ -58,4 +64,5 @@ truth_of_atoms = record {
   ba_by_0 = record { visible = visible_0; same_sign = refl; generalizes = tt; undisputed = inr (λ ex. ba_free ex) };
   ab_false = λ h. ab_not_produced h;
   aa_true = (1, parametric_entry, aa_by_1);
+  ba_false = λ h. ba_not_produced h;
 }

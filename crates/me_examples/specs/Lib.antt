@@ -3,11 +3,15 @@ pub mod BoundByFirstPlace
 pub mod Contradictions
 pub mod FirstRun
 pub mod GroundLists
+pub mod HiddenCounted
 pub mod HiddenEntry
+pub mod LeftVariable
 pub mod Letters
 pub mod MergedVariables
 pub mod OrderOfCandidates
+pub mod ParametricAssert
 pub mod QueueOrder
+pub mod RepeatedInstance
 pub mod Sharpening
 pub mod SmallAnswers
 pub mod SplitOutcomes

@@ -24,3 +24,4 @@ pub record TruthOfAtoms : Type 0 where
   pub ba_by_0 : Produces three 0 (pseudo false) (literal false (p b a))
   pub ab_false : IsTrueIn three (literal false (p a b))
   pub aa_true : IsTrueIn three (literal true (p a a))
+  pub ba_false : IsTrueIn three (literal false (p b a))

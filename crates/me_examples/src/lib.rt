@@ -8,10 +8,14 @@ ghost use Rattle.me_examples.specs.BoundByFirstPlace.{BoundByFirstPlace};
 ghost use Rattle.me_examples.specs.Contradictions.{Contradictions};
 ghost use Rattle.me_examples.specs.FirstRun.{FirstRun};
 ghost use Rattle.me_examples.specs.GroundLists.{GroundLists};
+ghost use Rattle.me_examples.specs.HiddenCounted.{HiddenIsCounted};
 ghost use Rattle.me_examples.specs.HiddenEntry.{LaterEntryHides};
+ghost use Rattle.me_examples.specs.LeftVariable.{LeftVariableIsRead};
 ghost use Rattle.me_examples.specs.MergedVariables.{MergedVariablesClose};
 ghost use Rattle.me_examples.specs.OrderOfCandidates.{OrderOfCandidates};
+ghost use Rattle.me_examples.specs.ParametricAssert.{AssertsParametric};
 ghost use Rattle.me_examples.specs.QueueOrder.{QueueOrder};
+ghost use Rattle.me_examples.specs.RepeatedInstance.{RepeatIsDropped};
 ghost use Rattle.me_examples.specs.Sharpening.{Sharpening};
 ghost use Rattle.me_examples.specs.SmallAnswers.{SmallAnswers};
 ghost use Rattle.me_examples.specs.SplitOutcomes.{OutcomesAreJoined};
@@ -80,4 +84,24 @@ pub fn sharpening()
 /// The first literal of the remainder says which bound was met.
 pub fn bound_by_first_place()
     ensures { BoundByFirstPlace }
+{}
+
+/// Hidden entries count at the bound on literals.
+pub fn hidden_is_counted()
+    ensures { HiddenIsCounted }
+{}
+
+/// What a Parametric entry asserts is Parametric where it is not ground.
+pub fn asserts_parametric()
+    ensures { AssertsParametric }
+{}
+
+/// A leaf's list has an instance once that its queue has twice.
+pub fn repeat_is_dropped()
+    ensures { RepeatIsDropped }
+{}
+
+/// A variable that the unifier leaves is read as c0 in the closing instance.
+pub fn left_variable_is_read()
+    ensures { LeftVariableIsRead }
 {}

@@ -13,3 +13,5 @@ pub mod NextStep
 pub mod Asked
 pub mod Queue
 pub mod Outcomes
+pub mod CanonicalForm
+pub mod UnifierMeasures

@@ -17,7 +17,7 @@ use Rattle.me_terms.specs.Answer.{AnswerValue, IsAnswer}
 use Rattle.me_terms.specs.declared.bounds.Bounds.{Bounds}
 use Rattle.me_terms.specs.declared.atom.Literal.{Literal}
 
--- A solution of a clause's equations with entries at given positions, or none is.
+-- A clause's equations with the entries at given positions have a solution, or a proof that they have none.
 abbrev pub SolvabilityIsDecided : Type 0
 SolvabilityIsDecided =
     (context : Context) (literals : List Literal) (positions : List (Option ℕ)) → ((family : Family) × Solves context literals positions family) ⊎ (¬ ((family : Family) × Solves context literals positions family))
