@@ -1,0 +1,12 @@
+pub mod Agreement
+pub mod Assembly
+pub mod CanAssemble
+pub mod CoreTables
+pub mod CutsFollow
+pub mod Filling
+pub mod FirstOccurrences
+pub mod Orderly
+pub mod PathOrder
+pub mod Trees
+pub mod Values
+pub mod WholeExample
