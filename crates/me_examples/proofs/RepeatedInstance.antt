@@ -1,5 +1,5 @@
 -- The clauses p and ~p|~p, and a context in which p stands twice.
-use Rattle.std.proofs.Common.{◌≡◌, true, false, [], ◌∷◌, None, refl, arith}
+use Rattle.std.proofs.Common.{true, false, [], ◌∷◌, None, refl, arith}
 use Rattle.me_terms.specs.Positions.{positions_of}
 use Rattle.me_terms.specs.ListedInstances.{constant, IsClosingInstance, IsAskedInstance}
 use Rattle.me_terms.specs.LeafList.{none_waits, adds}
