@@ -1,5 +1,5 @@
 -- The clauses p(X) and ~p(X), where c0 is b.
-use Rattle.std.proofs.Common.{◌≡◌, true, false, [], ◌∷◌, None, refl, ap, arith}
+use Rattle.std.proofs.Common.{true, false, [], ◌∷◌, None, refl, ap}
 use Rattle.me_terms.specs.Terms.{AtomValue}
 use Rattle.me_terms.specs.Positions.{positions_of}
 use Rattle.me_terms.specs.Unifier.{IsUnifier}

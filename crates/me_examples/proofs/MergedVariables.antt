@@ -27,11 +27,11 @@ merged (suc zero) (suc zero) = Var (pair 1 0)
 merged (suc zero) (suc (suc x)) = apart 1 (suc (suc x))
 merged (suc (suc space)) x = apart (suc (suc space)) x
 
-first_of : Arguments → TermValue
+unfoldable pub first_of : Arguments → TermValue
 first_of Nil = a
 first_of (Cons t ts) = t
 
-second_of : Arguments → TermValue
+unfoldable pub second_of : Arguments → TermValue
 second_of Nil = a
 second_of (Cons t ts) = first_of ts
 

@@ -2,7 +2,6 @@
 use Rattle.std.proofs.Common.{◌≡◌, true, false, [], ◌∷◌, Some, refl, ap, arith}
 use Rattle.me_terms.specs.Terms.{AtomValue}
 use Rattle.me_terms.specs.Substitutions.{IsVariant}
-use Rattle.me_terms.specs.Context.{IsVisible}
 use Rattle.me_terms.specs.Contradictory.{Clash}
 use Rattle.me_terms.specs.Positions.{positions_of}
 use Rattle.me_terms.specs.declared.entry.Kind.TheVariants.{Universal, Parametric}

@@ -96,7 +96,7 @@ pub fn asserts_parametric()
     ensures { AssertsParametric }
 {}
 
-/// A leaf's list has an instance once that its queue has twice.
+/// A leaf's list has an instance once that its queue has twice, and the repeat is worked.
 pub fn repeat_is_dropped()
     ensures { RepeatIsDropped }
 {}
