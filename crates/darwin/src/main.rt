@@ -17,6 +17,7 @@ fn start(rt: &HostRuntime) -> io::Result<u8> {
     Ok(run(alloc, &words, &mut source, &mut sink))
 }
 
-fn main(rt: HostRuntime) -> io::Result<ExitCode> {
-    Ok(ExitCode::from(start(&rt)?))
+fn main(rt: HostRuntime) -> ExitCode {
+    // Where the words can't be had there is no memory for them.
+    ExitCode::from(start(&rt).unwrap_or(7))
 }
