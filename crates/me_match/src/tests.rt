@@ -1,5 +1,6 @@
 use crate::{canonical, is_variant, strictly_more_general};
-use me_terms::{Atom, Literal, Pattern, Term, Terms};
+use indexmap::IndexSet;
+use me_terms::{Atom, Literal, Pattern, Term, Terms, Text};
 use std::alloc::Global;
 use std::test::Fail;
 
@@ -30,5 +31,19 @@ fn a_repeated_variable_is_less_general(rt: HostRuntime) -> Result<(), Fail> {
     assert!(rt; is_variant(&general, &p(alloc, 1, 0)?));
     assert!(rt; !is_variant(&general, &special));
     assert!(rt; strictly_more_general(&Pattern::Of(general), &special));
+    Ok(())
+}
+
+/// Lists are told apart by their items, in a set too.
+#[test]
+fn a_set_has_equal_texts_once(rt: HostRuntime) -> Result<(), Fail> {
+    let alloc = rt.alloc();
+    let mut texts = IndexSet::new(alloc);
+    for byte in [b'a', b'b', b'a'] {
+        let mut text = Text::new(alloc);
+        text.push(byte).ok().ok_or("memory")?;
+        texts.insert(text).ok().ok_or("memory")?;
+    }
+    assert_eq!(rt; texts.len(), 2);
     Ok(())
 }
