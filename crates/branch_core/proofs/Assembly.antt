@@ -6,7 +6,7 @@ use Rattle.me_terms.specs.Values.{ProblemValue}
 use Rattle.me_terms.specs.Context.{Context}
 use Rattle.me_terms.specs.FirstOccurrences.{first_occurrences}
 use Rattle.me_terms.specs.Outcome.{TreeOutcome, Closed, Sat, Met, both, HasOutcome}
-use Rattle.me_terms.specs.Answer.{AnswerValue, answer_of, IsAnswer}
+use Rattle.me_terms.specs.Answer.{AnswerValue, answer_of, HasAnswer}
 use Rattle.me_terms.specs.Outcome as outcome
 use Rattle.me_terms.specs.declared.bounds.Bound.{Bound}
 use Rattle.me_terms.specs.declared.bounds.Bounds.{Bounds}
@@ -232,7 +232,7 @@ answer_from follow problem bounds positive records root filled whole is_in is_ro
     let once = search_once whole.1 in
     let x = total_agrees search once bounds.list whole.2.0 whole.2.1 records whole.2.2 root filled is_in is_root h in
     let follows = follow problem bounds positive records root filled whole is_in is_root h in
-    elim (decides_weighed bounds x.0 (outcome_of search) x.1) as (λ _. (reply : AnswerValue) × Decides (total_of bounds.list filled) reply × IsAnswer problem bounds positive reply) [
+    elim (decides_weighed bounds x.0 (outcome_of search) x.1) as (λ _. (reply : AnswerValue) × Decides (total_of bounds.list filled) reply × HasAnswer problem bounds positive reply) [
       | inl lost ↦ absurd (found (lost_total bounds.list filled (filled_own h) follows (x.2 ∙ lost)))
       | inr d ↦ (
         answer_of bounds (outcome_of search),

@@ -1,7 +1,7 @@
 -- What putting records together needs, and what it gives.
 use Rattle.std.specs.Prelude.{◌≡◌, ℕ, Bool, List, [], slice_get, Some}
 use Rattle.me_terms.specs.Values.{ProblemValue}
-use Rattle.me_terms.specs.Answer.{AnswerValue, IsAnswer}
+use Rattle.me_terms.specs.Answer.{AnswerValue, HasAnswer}
 use Rattle.me_terms.specs.declared.bounds.Bounds.{Bounds}
 use Rattle.branch_core.specs.Paths.{Turns, ProperlyExtends}
 use Rattle.branch_core.specs.Parts.{PartValue, Gift, RecordValue}
@@ -19,7 +19,7 @@ pub record CanAssemble (records : List RecordValue) : Type 0 where
 -- For every problem and bounds for which the records are whole it is the answer, whatever the sign of the start.
 abbrev pub AnswersWhole : List RecordValue → ℕ → AnswerValue → Type 0
 AnswersWhole records list_bound reply =
-    (problem : ProblemValue) (bounds : Bounds) (positive : Bool) → bounds.list ≡ list_bound → AreWholeRecords problem bounds positive records → IsAnswer problem bounds positive reply
+    (problem : ProblemValue) (bounds : Bounds) (positive : Bool) → bounds.list ≡ list_bound → AreWholeRecords problem bounds positive records → HasAnswer problem bounds positive reply
 
 -- Once the gifts are filled in, a part NoMemory stands left of the first Sat, or anywhere where there is no Sat.
 abbrev pub RecordsLackMemory : List RecordValue → Type 0

@@ -1,7 +1,7 @@
 -- Laws of whole records.
 use Rattle.std.specs.Prelude.{◌≡◌, ℕ, Bool, List, []}
 use Rattle.me_terms.specs.Values.{ProblemValue}
-use Rattle.me_terms.specs.Answer.{AnswerValue, IsAnswer}
+use Rattle.me_terms.specs.Answer.{AnswerValue, HasAnswer}
 use Rattle.me_terms.specs.declared.bounds.Bounds.{Bounds}
 use Rattle.branch_core.specs.Parts.{PartValue, RecordValue}
 use Rattle.branch_core.specs.Whole.{IsIn, AreWholeRecords}
@@ -11,7 +11,7 @@ use Rattle.branch_core.specs.Total.{Lost, Decides, total_of}
 
 -- Whole records with their gifts filled in decide the answer, unless a part NoMemory has no Sat left of it.
 abbrev pub WholeRecordsAnswer : Type 0
-WholeRecordsAnswer = (problem : ProblemValue) (bounds : Bounds) (positive : Bool) (records : List RecordValue) (root : RecordValue) (filled : List PartValue) → AreWholeRecords problem bounds positive records → IsIn root records → root.path ≡ [] → Filled records root.parts filled → ¬ LacksMemory filled → (reply : AnswerValue) × Decides (total_of bounds.list filled) reply × IsAnswer problem bounds positive reply
+WholeRecordsAnswer = (problem : ProblemValue) (bounds : Bounds) (positive : Bool) (records : List RecordValue) (root : RecordValue) (filled : List PartValue) → AreWholeRecords problem bounds positive records → IsIn root records → root.path ≡ [] → Filled records root.parts filled → ¬ LacksMemory filled → (reply : AnswerValue) × Decides (total_of bounds.list filled) reply × HasAnswer problem bounds positive reply
 
 -- In whole records with their gifts filled in each Cut has a Sat left of it.
 abbrev pub WholeCutsFollowSat : Type 0

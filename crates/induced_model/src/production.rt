@@ -8,8 +8,7 @@ ghost use Rattle.me_terms.specs.Values.{EntryValue};
 ghost use Rattle.me_terms.specs.Produces.{HasException, Produces};
 ghost use Rattle.induced_model.specs.Producers.{IsException, ExceptsAt, Yields, ProducesAt};
 
-use me_terms::{Atom, Entry, Kind, Literal, Pattern, matches};
-use me_view::View;
+use me_terms::{Atom, Entry, Kind, Literal, Pattern, View, matches};
 
 /// Whether the first pattern is at least as general as the second.
 fn generalizes(p: &Pattern, q: &Pattern) -> bool

@@ -8,8 +8,7 @@ ghost use Rattle.me_terms.specs.Produces.{IsInduced};
 ghost use Rattle.induced_model.specs.Producers.{IsFirstProducer, ProducesAt};
 
 use crate::production::produces_at;
-use me_terms::Atom;
-use me_view::View;
+use me_terms::{Atom, View};
 
 /// An atom's truth, and the entry that gives it.
 #[derive(Clone, Copy, Debug, PartialEq, Eq)]

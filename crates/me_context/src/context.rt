@@ -8,8 +8,7 @@ ghost use Rattle.me_terms.specs.Contradictory.{Contradicts};
 ghost use Rattle.me_context.specs.Views.{items_of};
 
 use crate::hiding::{is_shown, mark, newly_hidden};
-use me_terms::{Again, Entry, Kind, Pattern, Places, Reason};
-use me_view::{Refused, Trunk, View};
+use me_terms::{Again, Entry, Kind, Pattern, Places, Reason, Refused, Trunk, View};
 use std::alloc::{AllocError, Global};
 use std::marker::Model;
 

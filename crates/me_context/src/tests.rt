@@ -9,8 +9,7 @@ ghost use Rattle.me_terms.specs.declared.atom.Pattern.TheVariants as pattern;
 ghost use Rattle.me_context.specs.Positive.{IsPositive};
 
 use crate::Context;
-use me_terms::{Atom, Entry, Kind, Pattern, Reason, Term, Terms};
-use me_view::{Trunk, View};
+use me_terms::{Atom, Entry, Kind, Pattern, Reason, Term, Terms, Trunk, View};
 use std::alloc::{AllocError, Global};
 use std::test::Fail;
 

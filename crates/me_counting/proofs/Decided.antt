@@ -11,7 +11,7 @@ use Rattle.me_terms.specs.Next.{IsNext, Bounded, IsFirstRemaining, MeetsBound}
 use Rattle.me_terms.specs.Assert.{HasAssert}
 use Rattle.me_terms.specs.Grown.{split_entry, IsGrown, started, asserted, went_left, went_right}
 use Rattle.me_terms.specs.Outcome.{TreeOutcome, HasOutcome, both, Closed, Sat, Met, closes, is_exhausted, is_bounded, asserts, splits}
-use Rattle.me_terms.specs.Answer.{answer_of, IsAnswer, GaveUp, Unsatisfiable}
+use Rattle.me_terms.specs.Answer.{answer_of, HasAnswer, GaveUp, Unsatisfiable}
 use Rattle.me_terms.specs.Validity.{IsValid}
 use Rattle.me_terms.specs.declared.bounds.Bound.{Bound}
 use Rattle.me_terms.specs.declared.bounds.Bound.TheVariants as bound
@@ -58,7 +58,7 @@ module _ (problem : ProblemValue) (bounds : Bounds) (valid : IsValid problem) (f
       (add_small problem valid free context e before (assert_small problem valid free bounds context c place tuple e before candidate))
       (add_sharpens context e (repeats_sharpen h) (assert_sharpens problem bounds context c place tuple e candidate))
 
-  split_literal : (context : Context) (c place size : ℕ) (tuple : List ℕ) (l : Literal) → IsSplit problem bounds context c tuple place size l → IsLiteralEntry (split_entry l (split_kind l) SplitLeft)
+  split_literal : (context : Context) (c place size : ℕ) (tuple : List ℕ) (l : Literal) → IsSplit problem bounds context c place tuple size l → IsLiteralEntry (split_entry l (split_kind l) SplitLeft)
   split_literal context c place size tuple l h =
       let P : Literal → Type 0 = λ x. is_canonical x.atom ≡ true in
       (subst P (sym h.split_literal) (canonical_is (unified h.family h.literal).atom), λ g. split_by (are_ground l.atom.args) g)
@@ -113,5 +113,5 @@ module _ (problem : ProblemValue) (bounds : Bounds) (valid : IsValid problem) (f
   by_outcome (Met c) b none h = absurd (none c refl)
   by_outcome (Closed list) b none h = list_by list (nat_le (list_weight list) bounds.list) b h
 
-  pub only_list : (positive : Bool) (b : Bound) → IsAnswer problem bounds positive (GaveUp b) → b ≡ bound.List
+  pub only_list : (positive : Bool) (b : Bound) → HasAnswer problem bounds positive (GaveUp b) → b ≡ bound.List
   only_list positive b h = by_outcome h.0 b (λ c e. none_met started h.1 c e) h.2

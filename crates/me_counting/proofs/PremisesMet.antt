@@ -3,7 +3,7 @@ use Rattle.std.proofs.Common.{◌≡◌, ℕ, ◌+◌, ◌≤◌, [], ◌∷◌,
 use Rattle.std.proofs.lemmas.List.Elements.{All-nil, All-cons}
 use Rattle.me_terms.specs.Values.{SymbolValue}
 use Rattle.me_terms.specs.Validity.{IsValidClause, IsValid, IsLawful}
-use Rattle.me_terms.specs.Labels.{IsFunction, IsPredicate}
+use Rattle.me_terms.specs.Labels.{IsFunctionSymbol, IsPredicateSymbol}
 use Rattle.me_terms.specs.declared.symbol.Form.TheVariants.{Word}
 use Rattle.me_counting.specs.FunctionFree.{IsFunctionFree, IsRoomy}
 use Rattle.me_counting.specs.Premises.{first_clause, second_clause, names, plain_problem, tight_bounds, PremisesAreMet}
@@ -29,8 +29,8 @@ unfolding symbol
 valid = record {
   clauses = two (IsValidClause names) first_clause second_clause first_valid second_valid;
   few_clauses = omega arith;
-  functions = one IsFunction (symbol 99 0) ((λ h. cc h, refl), tt);
-  predicates = two IsPredicate (symbol 112 1) (symbol 113 2) ((λ h. cc h, refl), refl) ((λ h. cc h, refl), refl);
+  functions = one IsFunctionSymbol (symbol 99 0) ((λ h. cc h, refl), tt);
+  predicates = two IsPredicateSymbol (symbol 112 1) (symbol 113 2) ((λ h. cc h, refl), refl) ((λ h. cc h, refl), refl);
   c0_constant = refl;
 }
 

@@ -48,7 +48,7 @@ assert_sharpens problem bounds context c place tuple e h k f stands variant =
       | inr other ↦ absurd (opposite context e.positive e.kind e.atom (assert_apart problem bounds context c place tuple e h) k f stands other variant)
     ]
 
-pub split_is_new : (problem : ProblemValue) (bounds : Bounds) (context : Context) (c place size : ℕ) (tuple : List ℕ) (l : Literal) → IsContext context → IsSplit problem bounds context c tuple place size l → IsNew context l
+pub split_is_new : (problem : ProblemValue) (bounds : Bounds) (context : Context) (c place size : ℕ) (tuple : List ℕ) (l : Literal) → IsContext context → IsSplit problem bounds context c place tuple size l → IsNew context l
 split_is_new problem bounds context c place size tuple l context_is h k f stands variant =
     let both = split_apart problem bounds context c tuple place size l context_is h in
     elim (signs f.positive l.positive) as (λ _. ⊥) [

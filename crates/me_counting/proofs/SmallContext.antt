@@ -77,7 +77,7 @@ module _ (problem : ProblemValue) (valid : IsValid problem) (free : IsFunctionFr
       let P : EntryValue → Type 0 = λ x. IsSmallOr problem.signature x.atom in
       subst P (sym h.entry) small
 
-  pub split_small : (bounds : Bounds) (context : Context) (c place size : ℕ) (tuple : List ℕ) (l : Literal) → AreSmall problem.signature context → IsSplit problem bounds context c tuple place size l → IsSmall problem.signature l.atom
+  pub split_small : (bounds : Bounds) (context : Context) (c place size : ℕ) (tuple : List ℕ) (l : Literal) → AreSmall problem.signature context → IsSplit problem bounds context c place tuple size l → IsSmall problem.signature l.atom
   split_small bounds context c place size tuple l entries h =
       let small = canonical_small problem.signature (unified h.family h.literal).atom (unified_small context c h.clause (positions_of None tuple) h.family place h.literal entries h.productive.clause_at h.productive.unifier.unifier h.literal_at) in
       let P : Literal → Type 0 = λ x. IsSmall problem.signature x.atom in

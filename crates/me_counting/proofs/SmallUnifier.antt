@@ -4,7 +4,7 @@ use Rattle.me_terms.specs.Terms.{TermValue, Var, App, Arguments, Nil, Cons, Atom
 use Rattle.me_terms.specs.Substitutions.{Substitution, Family, apply_term, apply_arguments}
 use Rattle.me_terms.specs.Values.{EntryValue}
 use Rattle.me_terms.specs.Context.{Context, StandsAt}
-use Rattle.me_terms.specs.Unifier.{Meets, Solves, IsUnifier}
+use Rattle.me_terms.specs.Unifier.{IsSolvedBy, Solves, IsUnifier}
 use Rattle.me_terms.specs.declared.atom.Literal.{Literal}
 use Rattle.me_terms.specs.declared.atom.Pattern.{Pattern}
 use Rattle.me_terms.specs.declared.atom.Pattern.TheVariants.{Any, Of}
@@ -37,7 +37,7 @@ abbrev pub IsSmallPattern : ℕ → Pattern → Type 0
 IsSmallPattern c Any = Unit {0}
 IsSmallPattern c (Of a) = are_small c a.args ≡ true
 
-meets : (c : ℕ) (s t : Substitution) (p : Pattern) (a : AtomValue) → IsSmallPattern c p → are_small c a.args ≡ true → Meets s p t a → Meets (λ x. collapse c (s x)) p (λ x. collapse c (t x)) a
+meets : (c : ℕ) (s t : Substitution) (p : Pattern) (a : AtomValue) → IsSmallPattern c p → are_small c a.args ≡ true → IsSolvedBy s p t a → IsSolvedBy (λ x. collapse c (s x)) p (λ x. collapse c (t x)) a
 meets c s t Any a f g h = tt
 meets c s t (Of b) a f g h =
     let args = sym (collapsed_all c s b.args f) ∙ (ap (λ (x : AtomValue). collapse_all c x.args) h ∙ collapsed_all c t a.args g) in

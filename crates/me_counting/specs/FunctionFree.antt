@@ -5,7 +5,7 @@ use Rattle.me_terms.specs.Values.{ProblemValue, SymbolValue}
 use Rattle.me_terms.specs.Context.{Context}
 use Rattle.me_terms.specs.Next.{IsNext, Bounded}
 use Rattle.me_terms.specs.Grown.{IsGrown}
-use Rattle.me_terms.specs.Answer.{IsAnswer, GaveUp}
+use Rattle.me_terms.specs.Answer.{HasAnswer, GaveUp}
 use Rattle.me_terms.specs.Validity.{IsValid}
 use Rattle.me_terms.specs.declared.bounds.Bound.{Bound}
 use Rattle.me_terms.specs.declared.bounds.Bound.TheVariants as bound
@@ -19,11 +19,11 @@ IsFunctionFree problem = All (λ (symbol : SymbolValue). symbol.arity ≡ 0) pro
 abbrev pub atoms_of : ℕ → SymbolValue → ℕ
 atoms_of constants predicate = (constants + predicate.arity) ^ predicate.arity
 
--- No fewer than the atoms up to variants.
+-- A number that the atoms over the signature, counted up to variants, do not exceed: an atom of a predicate with n arguments has at each of them one of the constants or one of n variables.
 abbrev pub most_atoms : ProblemValue → ℕ
 most_atoms problem = sum_by (atoms_of (length problem.signature.functions)) problem.signature.predicates
 
--- Every atom fits, and each fits twice, beside the pseudo-literal.
+-- Every atom over the signature is within the depth and the weight, and there is room for each atom twice, beside the pseudo-literal.
 pub record IsRoomy (problem : ProblemValue) (bounds : Bounds) : Type 0 where
   pub depth : 1 ≤ bounds.depth
   pub weight : All (λ (symbol : SymbolValue). 1 + symbol.arity ≤ bounds.weight) problem.signature.predicates
@@ -33,4 +33,4 @@ pub record IsRoomy (problem : ProblemValue) (bounds : Bounds) : Type 0 where
 pub record FunctionFreeIsDecided : Type 0 where
   pub few_entries : (problem : ProblemValue) (bounds : Bounds) (positive : Bool) (context : Context) → IsValid problem → IsFunctionFree problem → IsGrown problem bounds positive context → length context ≤ 1 + 2 * most_atoms problem
   pub no_bound : (problem : ProblemValue) (bounds : Bounds) (positive : Bool) (context : Context) (b : Bound) → IsValid problem → IsFunctionFree problem → IsRoomy problem bounds → IsGrown problem bounds positive context → ¬ IsNext problem bounds context (Bounded b)
-  pub only_list : (problem : ProblemValue) (bounds : Bounds) (positive : Bool) (b : Bound) → IsValid problem → IsFunctionFree problem → IsRoomy problem bounds → IsAnswer problem bounds positive (GaveUp b) → b ≡ bound.List
+  pub only_list : (problem : ProblemValue) (bounds : Bounds) (positive : Bool) (b : Bound) → IsValid problem → IsFunctionFree problem → IsRoomy problem bounds → HasAnswer problem bounds positive (GaveUp b) → b ≡ bound.List

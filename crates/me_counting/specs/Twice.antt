@@ -29,10 +29,10 @@ NoneThrice context = (i j k : ℕ) (d e f : EntryValue) → i < j → j < k → 
 abbrev pub IsNew : Context → Literal → Type 0
 IsNew context l = (k : ℕ) (f : EntryValue) → StandsAt context k f → ¬ IsVariant f.atom (Of l.atom)
 
--- In a grown context an atom stands at most twice up to variants, then with one sign, first Parametric and later Universal: an Assert's entry sharpens what it repeats, and a Split's atom is new.
+-- Up to variants an atom stands at most twice in a grown context. Where it stands twice, both entries have one sign, the earlier is Parametric and the later Universal. So it is since an asserted entry that repeats an atom is Universal and repeats a single Parametric entry of its sign, and the atom of a Split is new.
 pub record AtomsStandTwice : Type 0 where
   pub repeats_sharpen : (problem : ProblemValue) (bounds : Bounds) (positive : Bool) (context : Context) → IsGrown problem bounds positive context → RepeatsSharpen context
   pub none_thrice : (problem : ProblemValue) (bounds : Bounds) (positive : Bool) (context : Context) → IsGrown problem bounds positive context → NoneThrice context
   pub assert_sharpens : (problem : ProblemValue) (bounds : Bounds) (context : Context) (c place : ℕ) (tuple : List ℕ) (e : EntryValue) → IsAssert problem bounds context c place tuple e → (k : ℕ) (f : EntryValue) → StandsAt context k f → IsVariant f.atom e.atom → Sharpens f e
   pub assert_repeats_one : (problem : ProblemValue) (bounds : Bounds) (positive : Bool) (context : Context) (e : EntryValue) → IsGrown problem bounds positive context → (j k : ℕ) (f g : EntryValue) → StandsAt context j f → StandsAt context k g → IsVariant f.atom e.atom → IsVariant g.atom e.atom → (c place : ℕ) (tuple : List ℕ) → IsAssert problem bounds context c place tuple e → j ≡ k
-  pub split_is_new : (problem : ProblemValue) (bounds : Bounds) (positive : Bool) (context : Context) (c place size : ℕ) (tuple : List ℕ) (l : Literal) → IsGrown problem bounds positive context → IsSplit problem bounds context c tuple place size l → IsNew context l
+  pub split_is_new : (problem : ProblemValue) (bounds : Bounds) (positive : Bool) (context : Context) (c place size : ℕ) (tuple : List ℕ) (l : Literal) → IsGrown problem bounds positive context → IsSplit problem bounds context c place tuple size l → IsNew context l

@@ -1,5 +1,5 @@
 //! How many entries a grown context has, as laws of the definitions of `me_terms`, each the contract of
-//! a function without a body.
+//! a function with an empty body.
 //!
 //! An atom stands at most twice, so without functions with arguments no search meets wide bounds.
 #![tactic(auto)]

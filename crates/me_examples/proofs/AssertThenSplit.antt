@@ -9,7 +9,7 @@ use Rattle.me_terms.specs.Positions.{positions_of}
 use Rattle.me_terms.specs.Assert.{MayAssert, IsAssert}
 use Rattle.me_terms.specs.Split.{IsSplit}
 use Rattle.me_terms.specs.Productive.{IsProductiveUnifier}
-use Rattle.me_terms.specs.Pairing.{apart}
+use Rattle.me_laws.proofs.Pairing.{apart}
 use Rattle.me_terms.specs.declared.entry.Kind.TheVariants.{Universal, Parametric}
 use Rattle.me_terms.specs.declared.atom.Pattern.TheVariants.{Any, Of}
 use Rattle.me_laws.proofs.Apart.{apart_general}
@@ -101,7 +101,7 @@ both_pseudo = record {
       ((pseudo false, record { visible = pseudo_visible; same_sign = refl; generalizes = tt; undisputed = inr (λ ex. p_free ex) }), ((pseudo false, record { visible = pseudo_visible; same_sign = refl; generalizes = tt; undisputed = inr (λ ex. q_free ex) }), tt));
 }
 
-splits_p : IsSplit problem bounds four_asserted 0 (0 ∷ 0 ∷ []) 0 2 (literal true (p_of x0))
+splits_p : IsSplit problem bounds four_asserted 0 0 (0 ∷ 0 ∷ []) 2 (literal true (p_of x0))
 splits_p = record {
   clause = p_or_q;
   literal = literal true (p_of x0);

@@ -3,7 +3,7 @@ use Rattle.std.proofs.Common.{false, refl, arith}
 use Rattle.me_examples.specs.FirstRun.{clause_p, clause_not_p, names, usual_bounds, first_list, FirstRun}
 use Rattle.me_examples.specs.FirstRun.{first_run as problem}
 use Rattle.me_terms.specs.Validity.{IsValidClause, IsValid}
-use Rattle.me_terms.specs.Labels.{IsFunction, IsPredicate}
+use Rattle.me_terms.specs.Labels.{IsFunctionSymbol, IsPredicateSymbol}
 use Rattle.me_examples.proofs.FirstRunAnswer.{first_run_refuted}
 use Rattle.me_laws.proofs.Lists.{all_of}
 use Rattle.me_refutation.proofs.Answered.{unsatisfiable_refuted}
@@ -18,8 +18,8 @@ first_valid : IsValid problem
 first_valid = record {
   clauses = all_of (IsValidClause names) problem.clauses (p_valid, (not_p_valid, tt));
   few_clauses = omega arith;
-  functions = all_of IsFunction names.functions (((λ h. cc h, refl), tt), tt);
-  predicates = all_of IsPredicate names.predicates (((λ h. cc h, refl), refl), tt);
+  functions = all_of IsFunctionSymbol names.functions (((λ h. cc h, refl), tt), tt);
+  predicates = all_of IsPredicateSymbol names.predicates (((λ h. cc h, refl), refl), tt);
   c0_constant = refl;
 }
 

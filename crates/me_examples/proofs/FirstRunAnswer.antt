@@ -6,7 +6,7 @@ use Rattle.me_terms.specs.Values.{ClauseValue, EntryValue}
 use Rattle.me_terms.specs.Context.{StandsAt, pseudo, IsVisible}
 use Rattle.me_terms.specs.Contradictory.{Clash}
 use Rattle.me_terms.specs.Positions.{AreOpposite, positions_of, ClauseAt}
-use Rattle.me_terms.specs.Unifier.{Meets, Solves, IsUnifier, IsContextUnifier}
+use Rattle.me_terms.specs.Unifier.{IsSolvedBy, Solves, IsUnifier, IsContextUnifier}
 use Rattle.me_terms.specs.Remainder.{remainder}
 use Rattle.me_terms.specs.Close.{IsClose, HasClose}
 use Rattle.me_terms.specs.Assert.{IsAssert, MayAssert}
@@ -16,8 +16,8 @@ use Rattle.me_terms.specs.ListedInstances.{IsClosingInstance, IsAskedInstance, c
 use Rattle.me_terms.specs.LeafList.{Adds, none_waits, adds, IsLeafList}
 use Rattle.me_terms.specs.Grown.{start}
 use Rattle.me_terms.specs.Outcome.{closes, asserts, Closed}
-use Rattle.me_terms.specs.Answer.{IsAnswer, Unsatisfiable}
-use Rattle.me_terms.specs.Pairing.{apart}
+use Rattle.me_terms.specs.Answer.{HasAnswer, Unsatisfiable}
+use Rattle.me_laws.proofs.Pairing.{apart}
 use Rattle.me_examples.specs.FirstRun.{p, positive_p, negative_p, clause_p, clause_not_p, first_run, usual_bounds, entry_p, after, first_list}
 use Rattle.me_terms.specs.declared.entry.Kind.TheVariants.{Universal}
 use Rattle.me_terms.specs.declared.atom.Literal.{Literal}
@@ -94,12 +94,12 @@ close_visible zero k l at pos =
     subst P (same_Some 1 k (same_Some (Some 1) (Some k) pos)) (entry_p, entry_visible, subst Q (same_Some negative_p l at) refl)
 close_visible (suc i) k l at pos = cc
 
-close_meets : (i k : ℕ) (l : Literal) (e : EntryValue) → slice_get (negative_p ∷ []) i ≡ Some l → slice_get (positions_of None (1 ∷ [])) i ≡ Some (Some k) → StandsAt after k e → Meets (apart (i + 1)) e.atom (apart 0) l.atom
+close_meets : (i k : ℕ) (l : Literal) (e : EntryValue) → slice_get (negative_p ∷ []) i ≡ Some l → slice_get (positions_of None (1 ∷ [])) i ≡ Some (Some k) → StandsAt after k e → IsSolvedBy (apart (i + 1)) e.atom (apart 0) l.atom
 close_meets zero k l e at pos stands =
     let P : ℕ → Type 0 = λ j. StandsAt after j e in
     let there = subst P (sym (same_Some 1 k (same_Some (Some 1) (Some k) pos))) stands in
-    let Q : Literal → Type 0 = λ m. Meets (apart (0 + 1)) e.atom (apart 0) m.atom in
-    let R : EntryValue → Type 0 = λ f. Meets (apart (0 + 1)) f.atom (apart 0) p in
+    let Q : Literal → Type 0 = λ m. IsSolvedBy (apart (0 + 1)) e.atom (apart 0) m.atom in
+    let R : EntryValue → Type 0 = λ f. IsSolvedBy (apart (0 + 1)) f.atom (apart 0) p in
     subst Q (same_Some negative_p l at) (subst R (same_Some entry_p e there) refl)
 close_meets (suc i) k l e at pos stands = cc
 
@@ -165,5 +165,5 @@ added = adds {d = (1, positive_p)} {place = 0} {tuple = []} (λ h. absurd (omega
 leaf : IsLeafList first_run after 1 (1 ∷ []) first_list
 leaf = (negative_p ∷ [], record { clause = 0; literals = positive_p ∷ [] } ∷ [], closing, added, refl)
 
-pub first_run_refuted : IsAnswer first_run usual_bounds false (Unsatisfiable first_list)
+pub first_run_refuted : HasAnswer first_run usual_bounds false (Unsatisfiable first_list)
 first_run_refuted = (Closed first_list, asserts first_step (closes second_step leaf), refl)

@@ -6,11 +6,11 @@ use Rattle.me_terms.specs.Substitutions.{Family, IsInstance, Generalizes}
 use Rattle.me_terms.specs.Values.{EntryValue}
 use Rattle.me_terms.specs.Context.{Context, StandsAt, pseudo, IsVisible}
 use Rattle.me_terms.specs.Positions.{positions_of, AreOpposite}
-use Rattle.me_terms.specs.Unifier.{Meets, Solves, IsUnifier, IsContextUnifier, unified}
+use Rattle.me_terms.specs.Unifier.{IsSolvedBy, Solves, IsUnifier, IsContextUnifier, unified}
 use Rattle.me_terms.specs.Productive.{IsProductive}
 use Rattle.me_terms.specs.Produces.{Produces}
 use Rattle.me_terms.specs.Measures.{complement}
-use Rattle.me_terms.specs.Pairing.{apart}
+use Rattle.me_laws.proofs.Pairing.{apart}
 use Rattle.me_terms.specs.Remainder.{remainder}
 use Rattle.me_terms.specs.Grown.{start}
 use Rattle.me_terms.specs.declared.entry.Kind.TheVariants.{Universal}
@@ -85,10 +85,10 @@ module _ (context : Context) (ls : List Literal) (ks : List (Option ℕ)) (u : F
     visible = λ i k l at pos. each_place (λ i k l. (e : EntryValue) × IsVisible context k e × (e.positive ≡ not l.positive)) ls ks h i k l at pos;
   }
 
-  pub solves_by : EachPlace (λ i k l. (e : EntryValue) × StandsAt context k e × Meets (u (i + 1)) e.atom (u 0) l.atom) ls ks → Solves context ls ks u
+  pub solves_by : EachPlace (λ i k l. (e : EntryValue) × StandsAt context k e × IsSolvedBy (u (i + 1)) e.atom (u 0) l.atom) ls ks → Solves context ls ks u
   solves_by h = λ i k l e o.
-      let found = each_place (λ i k l. (e : EntryValue) × StandsAt context k e × Meets (u (i + 1)) e.atom (u 0) l.atom) ls ks h i k l o.literal o.position in
-      let P : EntryValue → Type 0 = λ f. Meets (u (i + 1)) f.atom (u 0) l.atom in
+      let found = each_place (λ i k l. (e : EntryValue) × StandsAt context k e × IsSolvedBy (u (i + 1)) e.atom (u 0) l.atom) ls ks h i k l o.literal o.position in
+      let P : EntryValue → Type 0 = λ f. IsSolvedBy (u (i + 1)) f.atom (u 0) l.atom in
       subst P (same_Some found.0 e (sym found.1 ∙ o.stands)) found.2
 
   pub productive_by : EachPlace (λ i k l. (e : EntryValue) × Produces context k e (complement (unified u l))) ls ks → IsProductive context ls ks u

@@ -2,7 +2,7 @@
 use Rattle.std.specs.Prelude.{true, false, [], ◌∷◌}
 use Rattle.me_terms.specs.Terms.{App, Nil, Cons, AtomValue}
 use Rattle.me_terms.specs.Values.{SignatureValue, ClauseValue, ProblemValue}
-use Rattle.me_terms.specs.Answer.{IsAnswer, GaveUp}
+use Rattle.me_terms.specs.Answer.{HasAnswer, GaveUp}
 use Rattle.me_terms.specs.declared.bounds.Bound.TheVariants as bound
 use Rattle.me_terms.specs.declared.bounds.Bounds.{Bounds}
 use Rattle.me_examples.specs.Letters.{x0, p_of, q_of, literal, word}
@@ -29,5 +29,5 @@ tight = record { depth = 1; weight = 1; literals = 2000; list = 10000000 }
 
 -- The first literal of the remainder says which bound was met, and depth goes before weight: p(X0) is too heavy alone, and q(f(X0)) too deep and too heavy.
 pub record BoundByFirstPlace : Type 0 where
-  pub weight_first : IsAnswer (one_clause (p_of x0) deep) tight false (GaveUp bound.Weight)
-  pub depth_first : IsAnswer (one_clause deep (p_of x0)) tight false (GaveUp bound.Depth)
+  pub weight_first : HasAnswer (one_clause (p_of x0) deep) tight false (GaveUp bound.Weight)
+  pub depth_first : HasAnswer (one_clause deep (p_of x0)) tight false (GaveUp bound.Depth)

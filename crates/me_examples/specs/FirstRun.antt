@@ -6,7 +6,7 @@ use Rattle.me_terms.specs.Validity.{IsValid}
 use Rattle.me_terms.specs.Refuted.{IsRefuted}
 use Rattle.me_terms.specs.Context.{Context, add}
 use Rattle.me_terms.specs.Grown.{start}
-use Rattle.me_terms.specs.Answer.{IsAnswer, Unsatisfiable}
+use Rattle.me_terms.specs.Answer.{HasAnswer, Unsatisfiable}
 use Rattle.me_terms.specs.declared.bounds.Bounds.{Bounds}
 use Rattle.me_terms.specs.declared.symbol.Form.TheVariants.{Word}
 use Rattle.me_terms.specs.declared.entry.Kind.TheVariants.{Universal}
@@ -52,5 +52,5 @@ first_list = record { clause = 1; literals = negative_p ∷ [] } ∷ record { cl
 -- p and ~p are unsatisfiable by their only instances: the problem is valid, the answer is the list of these two, and no choice of truth values makes both true.
 pub record FirstRun : Type 0 where
   pub valid : IsValid first_run
-  pub reply : IsAnswer first_run usual_bounds false (Unsatisfiable first_list)
+  pub reply : HasAnswer first_run usual_bounds false (Unsatisfiable first_list)
   pub refuted : IsRefuted first_list

@@ -2,7 +2,7 @@
 use Rattle.std.specs.Prelude.{Bool, true, false, List, [], ◌∷◌}
 use Rattle.me_terms.specs.Values.{SignatureValue, ClauseValue, ProblemValue}
 use Rattle.me_terms.specs.Grown.{start}
-use Rattle.me_terms.specs.Answer.{IsAnswer, Unsatisfiable, Satisfiable, GaveUp}
+use Rattle.me_terms.specs.Answer.{HasAnswer, Unsatisfiable, Satisfiable, GaveUp}
 use Rattle.me_terms.specs.declared.bounds.Bound.TheVariants as bound
 use Rattle.me_terms.specs.declared.bounds.Bounds.{Bounds}
 use Rattle.me_terms.specs.declared.atom.Literal.{Literal}
@@ -36,7 +36,7 @@ narrow = record { depth = 6; weight = 1000; literals = 1; list = 10000000 }
 
 -- No clauses have a model by either start; the empty clause alone is unsatisfiable by itself; and p(X0) meets a weight of 1, and a context of one entry.
 pub record SmallAnswers : Type 0 where
-  pub no_clauses_satisfiable : (positive : Bool) → IsAnswer no_clauses usual positive (Satisfiable (start positive))
-  pub empty_clause_refuted : (positive : Bool) → IsAnswer empty_clause usual positive (Unsatisfiable (record { clause = 0; literals = [] } ∷ []))
-  pub weight_met : IsAnswer p_of_all light false (GaveUp bound.Weight)
-  pub literals_met : IsAnswer p_of_all narrow false (GaveUp bound.Literals)
+  pub no_clauses_satisfiable : (positive : Bool) → HasAnswer no_clauses usual positive (Satisfiable (start positive))
+  pub empty_clause_refuted : (positive : Bool) → HasAnswer empty_clause usual positive (Unsatisfiable (record { clause = 0; literals = [] } ∷ []))
+  pub weight_met : HasAnswer p_of_all light false (GaveUp bound.Weight)
+  pub literals_met : HasAnswer p_of_all narrow false (GaveUp bound.Literals)

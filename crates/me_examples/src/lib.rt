@@ -1,4 +1,4 @@
-//! Examples of the definitions of `me_terms` as theorems, each the contract of a function without a body.
+//! Examples of the definitions of `me_terms` as theorems, each the contract of a function with an empty body.
 //!
 //! They show contexts, what contradicts and hides, an Assert and a Split, and whole answers.
 #![tactic(auto)]

@@ -8,7 +8,7 @@ use Rattle.me_terms.specs.Substitutions.{Substitution, Family, apply_arguments, 
 use Rattle.me_terms.specs.Measures.{complement}
 use Rattle.me_terms.specs.Values.{ProblemValue, ClauseValue, EntryValue}
 use Rattle.me_terms.specs.Context.{Context, StandsAt}
-use Rattle.me_terms.specs.Positions.{AreOpposite, Opposes, positions_of}
+use Rattle.me_terms.specs.Positions.{AreOpposite, StandsAgainst, positions_of}
 use Rattle.me_terms.specs.Unifier.{Solves, IsUnifier, unified}
 use Rattle.me_terms.specs.ListedInstances.{constant, instance_of, IsAskedInstance}
 use Rattle.me_terms.specs.LeafList.{Demand, demands}
@@ -48,7 +48,7 @@ instance_met before context ls ks u m agree opposite solves =
     let seen = opposite.visible i k l at pos in
     let e = seen.0 in
     let lt : k < length before = slice_get_within before k e seen.1.0 in
-    let opposed : Opposes before ls ks i l k e = record { literal = at; position = pos; stands = seen.1.0 } in
+    let opposed : StandsAgainst before ls ks i l k e = record { literal = at; position = pos; stands = seen.1.0 } in
     let high : Generalizes e.atom (Of (apply_atom (u 0) l.atom)) = met (u (i + 1)) e.atom (u 0) l.atom (solves i k l e opposed) in
     record {
       entry = e;

@@ -6,7 +6,7 @@ use Rattle.me_terms.specs.Measures.{literal_depth, literal_weight}
 use Rattle.me_terms.specs.Values.{EntryValue}
 use Rattle.me_terms.specs.Context.{Context, IsHidden}
 use Rattle.me_terms.specs.Contradictory.{Unifiable, Clash, IsContradictory}
-use Rattle.me_terms.specs.Unifier.{Meets}
+use Rattle.me_terms.specs.Unifier.{IsSolvedBy}
 use Rattle.me_terms.specs.Fits.{Fits}
 use Rattle.me_terms.specs.Assert.{IsSubsumed, HasVariant, MayAssert}
 use Rattle.me_terms.specs.declared.bounds.Bounds.{Bounds}
@@ -32,7 +32,7 @@ by_equation a b (inl m) = inl (spread m.substitution 1, spread m.substitution 0,
 by_equation a b (inr never) =
     inr (λ h.
     let v : Family = two h.1 h.0 in
-    let P : Family → Type 0 = λ z. Meets (z 1) (Of a) (z 0) b in
+    let P : Family → Type 0 = λ z. IsSolvedBy (z 1) (Of a) (z 0) b in
     never (flat v) (holds (flat v) 1 (Of a) b (subst P (sym (spread_flat v)) h.2)))
 
 unifiable_decided : (p q : Pattern) → Unifiable p q ⊎ (¬ Unifiable p q)

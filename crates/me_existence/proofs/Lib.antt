@@ -13,5 +13,3 @@ pub mod NextStep
 pub mod Asked
 pub mod Queue
 pub mod Outcomes
-pub mod CanonicalForm
-pub mod UnifierMeasures

@@ -12,7 +12,7 @@ use Rattle.me_terms.specs.FirstOccurrences.{first_occurrences}
 use Rattle.me_terms.specs.Next.{NextValue, Close, Assert, Split, Exhausted, Bounded, IsNext, HasRoom}
 use Rattle.me_terms.specs.Grown.{start, split_entry, IsGrown, started, asserted, went_left, went_right}
 use Rattle.me_terms.specs.Outcome.{TreeOutcome, Closed, Sat, Met, both, HasOutcome, closes, is_exhausted, is_bounded, asserts, splits}
-use Rattle.me_terms.specs.Answer.{AnswerValue, answer_of, IsAnswer}
+use Rattle.me_terms.specs.Answer.{AnswerValue, answer_of, HasAnswer}
 use Rattle.me_terms.specs.declared.bounds.Bounds.{Bounds}
 use Rattle.me_laws.proofs.OutcomeDetermined.{answer_unique}
 use Rattle.me_existence.proofs.NextStep.{next_step}
@@ -61,8 +61,8 @@ module _ (problem : ProblemValue) (bounds : Bounds) (positive : Bool) where
   pub outcome : (context : Context) → IsGrown problem bounds positive context → (outcome : TreeOutcome) × HasOutcome problem bounds context outcome
   outcome context grown = outcome_within bounds.literals context grown (omega arith)
 
-  pub answer : (reply : AnswerValue) × IsAnswer problem bounds positive reply
+  pub answer : (reply : AnswerValue) × HasAnswer problem bounds positive reply
   answer = let whole = outcome (start positive) started in (answer_of bounds whole.0, (whole.0, whole.1, refl))
 
-  pub only_answer : (reply : AnswerValue) × IsAnswer problem bounds positive reply × ((other : AnswerValue) → IsAnswer problem bounds positive other → other ≡ reply)
+  pub only_answer : (reply : AnswerValue) × HasAnswer problem bounds positive reply × ((other : AnswerValue) → HasAnswer problem bounds positive other → other ≡ reply)
   only_answer = (answer.0, answer.1, λ other h. answer_unique problem bounds positive other answer.0 h answer.1)

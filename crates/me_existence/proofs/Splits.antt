@@ -41,7 +41,7 @@ contains_decided (y ∷ ys) x =
 
 module _ (problem : ProblemValue) (bounds : Bounds) (context : Context) where
   abbrev Splitting : Code → Type 0
-  Splitting a = (size : ℕ) × (l : Literal) × IsSplit problem bounds context a.0 a.2 a.1 size l
+  Splitting a = (size : ℕ) × (l : Literal) × IsSplit problem bounds context a.0 a.1 a.2 size l
 
   module _ (c place : ℕ) (tuple : List ℕ) where
     split_fits : (x : ClauseValue) (l : Literal) (u : Family) → IsProductiveUnifier problem context c tuple x u → slice_get x.literals place ≡ Some l → Contains (remainder context (positions_of None tuple) u) place → Fits bounds (canonical_literal (unified u l)) ⊎ (¬ Fits bounds (canonical_literal (unified u l))) → Splitting (c, place, tuple) ⊎ (¬ Splitting (c, place, tuple))

@@ -13,7 +13,7 @@ use Rattle.me_terms.specs.Order.{IsLeastClose, IsLeastAssert, IsLeastSplit}
 use Rattle.me_terms.specs.LeafList.{IsLeafList}
 use Rattle.me_terms.specs.Grown.{IsGrown}
 use Rattle.me_terms.specs.Outcome.{TreeOutcome, HasOutcome}
-use Rattle.me_terms.specs.Answer.{AnswerValue, IsAnswer}
+use Rattle.me_terms.specs.Answer.{AnswerValue, HasAnswer}
 use Rattle.me_terms.specs.declared.bounds.Bounds.{Bounds}
 use Rattle.me_terms.specs.declared.atom.Literal.{Literal}
 
@@ -46,4 +46,4 @@ OutcomeExists = (problem : ProblemValue) (bounds : Bounds) (positive : Bool) (co
 
 -- A problem has exactly one answer, whatever the bounds and the sign of the start.
 abbrev pub ExactlyOneAnswer : Type 0
-ExactlyOneAnswer = (problem : ProblemValue) (bounds : Bounds) (positive : Bool) → (reply : AnswerValue) × IsAnswer problem bounds positive reply × ((other : AnswerValue) → IsAnswer problem bounds positive other → other ≡ reply)
+ExactlyOneAnswer = (problem : ProblemValue) (bounds : Bounds) (positive : Bool) → (reply : AnswerValue) × HasAnswer problem bounds positive reply × ((other : AnswerValue) → HasAnswer problem bounds positive other → other ≡ reply)

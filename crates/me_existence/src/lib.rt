@@ -1,22 +1,9 @@
-//! What exists and what is the same whichever is taken, as laws of the definitions of `me_terms`, each
-//! the contract of a function without a body.
+//! What exists, as laws of the definitions of `me_terms`, each the contract of a function with an empty body.
 //!
 //! A context has a next step and its tree an outcome, so a problem has exactly one answer.
 #![tactic(auto)]
 
-ghost use Rattle.me_existence.specs.CanonicalForm.{CanonicalFormIsTheVariant};
 ghost use Rattle.me_existence.specs.Existence.{CandidatesAreDecided, ExactlyOneAnswer, LeafListExists, NextExists, OutcomeExists, SolvabilityIsDecided};
-ghost use Rattle.me_existence.specs.UnifierMeasures.{UnifiersMeasureAlike};
-
-/// An atom's canonical form is its only canonical variant, and variants are what shares one.
-pub fn canonical_form_is_the_variant()
-    ensures { CanonicalFormIsTheVariant }
-{}
-
-/// A literal has the same depth, weight and groundness under each most general unifier.
-pub fn unifiers_measure_alike()
-    ensures { UnifiersMeasureAlike }
-{}
 
 /// Whether a clause's equations with entries have a solution is decided.
 pub fn solvability_is_decided()

@@ -101,7 +101,7 @@ assert_determined problem bounds context c place tuple e e' f g =
     let same : canonical_literal (unified f.family f.literal) ≡ canonical_literal (unified g.family g.literal) = canonical_unified f.family g.family both.0 f.literal ∙ ap (λ l. canonical_literal (unified g.family l)) both.1 in
     f.entry ∙ (ap (asserted_entry context c place tuple) same ∙ sym g.entry)
 
-pub split_determined : (problem : ProblemValue) (bounds : Bounds) (context : Context) (c : ℕ) (tuple : List ℕ) (place size size' : ℕ) (l l' : Literal) → IsSplit problem bounds context c tuple place size l → IsSplit problem bounds context c tuple place size' l' → l ≡ l'
+pub split_determined : (problem : ProblemValue) (bounds : Bounds) (context : Context) (c : ℕ) (tuple : List ℕ) (place size size' : ℕ) (l l' : Literal) → IsSplit problem bounds context c place tuple size l → IsSplit problem bounds context c place tuple size' l' → l ≡ l'
 split_determined problem bounds context c tuple place size size' l l' f g =
     let both = unified_same context None tuple place f.clause g.clause f.literal g.literal f.family g.family (clause_same problem c f.clause g.clause f.productive.clause_at g.productive.clause_at) f.literal_at g.literal_at f.productive.unifier g.productive.unifier in
     let same : canonical_literal (unified f.family f.literal) ≡ canonical_literal (unified g.family g.literal) = canonical_unified f.family g.family both.0 f.literal ∙ ap (λ m. canonical_literal (unified g.family m)) both.1 in
@@ -139,9 +139,9 @@ carried_assert problem bounds context e h i j f =
     let P : ℕ × ℕ × List ℕ → Type 0 = λ k. IsAssert problem bounds context k.0 k.1 k.2 e in
     subst P (λ n. (h n, i n, j n)) f
 
-carried_split : (problem : ProblemValue) (bounds : Bounds) (context : Context) (size : ℕ) (l : Literal) {c c' place place' : ℕ} {tuple tuple' : List ℕ} → c ≡ c' → tuple ≡ tuple' → place ≡ place' → IsSplit problem bounds context c tuple place size l → IsSplit problem bounds context c' tuple' place' size l
+carried_split : (problem : ProblemValue) (bounds : Bounds) (context : Context) (size : ℕ) (l : Literal) {c c' place place' : ℕ} {tuple tuple' : List ℕ} → c ≡ c' → tuple ≡ tuple' → place ≡ place' → IsSplit problem bounds context c place tuple size l → IsSplit problem bounds context c' place' tuple' size l
 carried_split problem bounds context size l h i j f =
-    let P : ℕ × List ℕ × ℕ → Type 0 = λ k. IsSplit problem bounds context k.0 k.1 k.2 size l in
+    let P : ℕ × List ℕ × ℕ → Type 0 = λ k. IsSplit problem bounds context k.0 k.2 k.1 size l in
     subst P (λ n. (h n, i n, j n)) f
 
 pub assert_unique : (problem : ProblemValue) (bounds : Bounds) (context : Context) (e e' : EntryValue) → IsLeastAssert problem bounds context e → IsLeastAssert problem bounds context e' → e ≡ e'
@@ -159,7 +159,7 @@ split_unique problem bounds context l l' f g =
     let c : f.0 ≡ g.0 = cc key in
     let rest : f.3 ++ f.1 ∷ [] ≡ g.3 ++ g.1 ∷ [] = cc key in
     let both = last_injective f.3 g.3 f.1 g.1 rest in
-    let moved : IsSplit problem bounds context g.0 g.3 g.1 f.2 l = carried_split problem bounds context f.2 l c both.0 both.1 f.4 in
+    let moved : IsSplit problem bounds context g.0 g.1 g.3 f.2 l = carried_split problem bounds context f.2 l c both.0 both.1 f.4 in
     split_determined problem bounds context g.0 g.3 g.1 f.2 g.2 l l' moved g.4
 
 -- ---- the bound that stops a search

@@ -1,6 +1,7 @@
 pub mod Added
 pub mod Apart
 pub mod Backed
+pub mod CanonicalForm
 pub mod Consistency
 pub mod Decisions
 pub mod Determined
@@ -12,8 +13,10 @@ pub mod Lists
 pub mod Model
 pub mod NoContradiction
 pub mod OutcomeDetermined
+pub mod Pairing
 pub mod Reasons
 pub mod Renaming
 pub mod SatisfiableModel
 pub mod Totality
+pub mod UnifierMeasures
 pub mod UnifiersExist

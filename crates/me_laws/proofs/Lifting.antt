@@ -5,7 +5,7 @@ use Rattle.me_terms.specs.Substitutions.{Substitution, Family, apply_term, apply
 use Rattle.me_terms.specs.Values.{EntryValue}
 use Rattle.me_terms.specs.Context.{Context}
 use Rattle.me_terms.specs.Produces.{HasException}
-use Rattle.me_terms.specs.Unifier.{Meets, Solves, IsUnifier}
+use Rattle.me_terms.specs.Unifier.{IsSolvedBy, Solves, IsUnifier}
 use Rattle.me_terms.specs.Productive.{IsProductive}
 use Rattle.me_terms.specs.declared.entry.Kind.TheVariants.{Universal}
 use Rattle.me_terms.specs.declared.atom.Literal.{Literal}
@@ -18,7 +18,7 @@ pub atom_along : (s v r : Substitution) → ((x : ℕ) → apply_term r (s x) �
 atom_along s v r h a = sym (atom_followed s r a) ∙ (λ i. apply_atom (λ x. h x i) a)
 
 -- an entry is more general than what it meets
-pub met : (t : Substitution) (q : Pattern) (s : Substitution) (a : AtomValue) → Meets t q s a → Generalizes q (Of (apply_atom s a))
+pub met : (t : Substitution) (q : Pattern) (s : Substitution) (a : AtomValue) → IsSolvedBy t q s a → Generalizes q (Of (apply_atom s a))
 met t Any s a m = tt
 met t (Of b) s a m = (t, m)
 

@@ -8,8 +8,8 @@ use Rattle.me_terms.specs.Measures.{complement}
 use Rattle.me_terms.specs.Values.{ProblemValue, EntryValue}
 use Rattle.me_terms.specs.Context.{Context, IsContext}
 use Rattle.me_terms.specs.Produces.{Produces, IsProduced, IsTrueIn}
-use Rattle.me_terms.specs.Positions.{positions_of, Opposes, AreOpposite}
-use Rattle.me_terms.specs.Unifier.{Meets, Solves, IsContextUnifier}
+use Rattle.me_terms.specs.Positions.{positions_of, StandsAgainst, AreOpposite}
+use Rattle.me_terms.specs.Unifier.{IsSolvedBy, Solves, IsContextUnifier}
 use Rattle.me_terms.specs.Productive.{IsProductive, HasProductive}
 use Rattle.me_terms.specs.Next.{Exhausted, IsNext}
 use Rattle.me_terms.specs.InducedModel.{IsModel}
@@ -27,9 +27,9 @@ record Picks (context : Context) (s : Substitution) (literals : List Literal) : 
   tuple : List ℕ
   matchers : ℕ → Substitution
   each_place : length (positions_of None tuple) ≡ length literals
-  produced : (i k : ℕ) (l : Literal) → slice_get literals i ≡ Some l → slice_get (positions_of None tuple) i ≡ Some (Some k) → (e : EntryValue) × Produces context k e (complement (apply_literal s l)) × Meets (matchers i) e.atom s l.atom
+  produced : (i k : ℕ) (l : Literal) → slice_get literals i ≡ Some l → slice_get (positions_of None tuple) i ≡ Some (Some k) → (e : EntryValue) × Produces context k e (complement (apply_literal s l)) × IsSolvedBy (matchers i) e.atom s l.atom
 
-matcher : (p : Pattern) (s : Substitution) (a : AtomValue) → Generalizes p (Of (apply_atom s a)) → (t : Substitution) × Meets t p s a
+matcher : (p : Pattern) (s : Substitution) (a : AtomValue) → Generalizes p (Of (apply_atom s a)) → (t : Substitution) × IsSolvedBy t p s a
 matcher AnyAtom s a h = (Var, tt)
 matcher (Of b) s a h = (h.0, h.1)
 
@@ -37,10 +37,10 @@ first_then : Substitution → (ℕ → Substitution) → ℕ → Substitution
 first_then t later zero = t
 first_then t later (suc i) = later i
 
-pick_at : (context : Context) (s : Substitution) (l : Literal) (ls : List Literal) (picks : Picks context s ls) (k : ℕ) (e : EntryValue) (t : Substitution) → Produces context k e (complement (apply_literal s l)) → Meets t e.atom s l.atom → (i j : ℕ) (m : Literal) → slice_get (l ∷ ls) i ≡ Some m → slice_get (positions_of None (k ∷ picks.tuple)) i ≡ Some (Some j) → (f : EntryValue) × Produces context j f (complement (apply_literal s m)) × Meets (first_then t picks.matchers i) f.atom s m.atom
+pick_at : (context : Context) (s : Substitution) (l : Literal) (ls : List Literal) (picks : Picks context s ls) (k : ℕ) (e : EntryValue) (t : Substitution) → Produces context k e (complement (apply_literal s l)) → IsSolvedBy t e.atom s l.atom → (i j : ℕ) (m : Literal) → slice_get (l ∷ ls) i ≡ Some m → slice_get (positions_of None (k ∷ picks.tuple)) i ≡ Some (Some j) → (f : EntryValue) × Produces context j f (complement (apply_literal s m)) × IsSolvedBy (first_then t picks.matchers i) f.atom s m.atom
 unfolding first_then
 pick_at context s l ls picks k e t produces meets zero j m at pos =
-    let P : ℕ × Literal → Type 0 = λ z. (f : EntryValue) × Produces context z.0 f (complement (apply_literal s z.1)) × Meets t f.atom s z.1.atom in
+    let P : ℕ × Literal → Type 0 = λ z. (f : EntryValue) × Produces context z.0 f (complement (apply_literal s z.1)) × IsSolvedBy t f.atom s z.1.atom in
     subst P (λ n. (same_Some k j (same_Some (Some k) (Some j) pos) n, same_Some l m at n)) (e, produces, meets)
 pick_at context s l ls picks k e t produces meets (suc i) j m at pos = picks.produced i j m at pos
 
@@ -77,12 +77,12 @@ module _ (context : Context) (s : Substitution) (literals : List Literal) (picks
   places = positions_of None picks.tuple
 
   -- the picked entry is the one that stands there
-  at_place : (i k : ℕ) (l : Literal) (e : EntryValue) → Opposes context literals places i l k e → Produces context k e (complement (apply_literal s l)) × Meets (picks.matchers i) e.atom s l.atom
+  at_place : (i k : ℕ) (l : Literal) (e : EntryValue) → StandsAgainst context literals places i l k e → Produces context k e (complement (apply_literal s l)) × IsSolvedBy (picks.matchers i) e.atom s l.atom
   unfolding places
   at_place i k l e o =
       let h = picks.produced i k l o.literal o.position in
       let same : h.0 ≡ e = same_Some h.0 e (sym h.1.visible.0 ∙ o.stands) in
-      let P : EntryValue → Type 0 = λ f. Produces context k f (complement (apply_literal s l)) × Meets (picks.matchers i) f.atom s l.atom in
+      let P : EntryValue → Type 0 = λ f. Produces context k f (complement (apply_literal s l)) × IsSolvedBy (picks.matchers i) f.atom s l.atom in
       subst P same (h.1, h.2)
 
   next_space : (i : ℕ) → family (i + 1) ≡ picks.matchers i
@@ -92,7 +92,7 @@ module _ (context : Context) (s : Substitution) (literals : List Literal) (picks
   solves : Solves context literals places family
   unfolding family first_then
   solves = λ i k l e o.
-      let P : Substitution → Type 0 = λ t. Meets t e.atom s l.atom in subst P (sym (next_space i)) (at_place i k l e o).1
+      let P : Substitution → Type 0 = λ t. IsSolvedBy t e.atom s l.atom in subst P (sym (next_space i)) (at_place i k l e o).1
 
   productive : IsProductive context literals places family
   unfolding family first_then

@@ -12,8 +12,8 @@ use Rattle.me_terms.specs.Values.{ProblemValue, EntryValue}
 use Rattle.me_terms.specs.Context.{Context, StandsAt, pseudo, IsContext, IsAtomWith, IsVisible}
 use Rattle.me_terms.specs.Contradictory.{Unifiable, Clash, IsContradictory}
 use Rattle.me_terms.specs.Produces.{HasException}
-use Rattle.me_terms.specs.Positions.{Opposes, positions_of, entry_at}
-use Rattle.me_terms.specs.Unifier.{Meets, unified}
+use Rattle.me_terms.specs.Positions.{StandsAgainst, positions_of, entry_at}
+use Rattle.me_terms.specs.Unifier.{IsSolvedBy, unified}
 use Rattle.me_terms.specs.Remainder.{is_variable, is_remaining, remains_at, remainder_from}
 use Rattle.me_terms.specs.Split.{IsSplit, split_kind}
 use Rattle.me_terms.specs.declared.bounds.Bounds.{Bounds}
@@ -214,7 +214,7 @@ parametric context h zero e stands s remains u =
     let kinds : Parametric ≡ Universal = ap (λ (f : EntryValue). f.kind) same ∙ u in cc kinds
 parametric context h (suc k) e stands s remains u = parametric_by e.kind e.atom s e.kind remains u (h.later (suc k) e (omega arith) stands)
 
-above : (p : Pattern) (kind : Kind) (s t : Substitution) (a : AtomValue) → is_remaining kind p s ≡ true → Meets s p t a → ¬ Generalizes (Of (apply_atom t a)) p
+above : (p : Pattern) (kind : Kind) (s t : Substitution) (a : AtomValue) → is_remaining kind p s ≡ true → IsSolvedBy s p t a → ¬ Generalizes (Of (apply_atom t a)) p
 above Any kind s t a remains meets h = h
 above (Of b) Universal s t a remains meets h = cc remains
 above (Of b) Parametric s t a remains meets h =
@@ -249,13 +249,13 @@ split_ground : (l : Literal) (test : Bool) → are_ground l.atom.args ≡ test �
 split_ground l true e h = e
 split_ground l false e h = cc h
 
-pub split_apart : (problem : ProblemValue) (bounds : Bounds) (context : Context) (c : ℕ) (tuple : List ℕ) (place size : ℕ) (l : Literal) → IsContext context → IsSplit problem bounds context c tuple place size l → (¬ IsContradictory context l (split_kind l)) × (¬ IsContradictory context (complement l) (split_kind l))
+pub split_apart : (problem : ProblemValue) (bounds : Bounds) (context : Context) (c : ℕ) (tuple : List ℕ) (place size : ℕ) (l : Literal) → IsContext context → IsSplit problem bounds context c place tuple size l → (¬ IsContradictory context l (split_kind l)) × (¬ IsContradictory context (complement l) (split_kind l))
 split_apart problem bounds context c tuple place size l context_is h =
     let found = left_of_remainder context (positions_of None tuple) h.family place 0 (in_contains _ place h.remains.0 h.remains.1 h.remains.2) in
     let left = found.1 in
     let same_place : found.0 ≡ place = omega (arith, left.at) in
     let P : ℕ → Type 0 = λ n. slice_get (positions_of None tuple) n ≡ Some (Some left.k) in
-    let opposed : Opposes context h.clause.literals (positions_of None tuple) place h.literal left.k left.entry = record { literal = h.literal_at; position = subst P same_place left.position; stands = left.stands } in
+    let opposed : StandsAgainst context h.clause.literals (positions_of None tuple) place h.literal left.k left.entry = record { literal = h.literal_at; position = subst P same_place left.position; stands = left.stands } in
     let produces = h.productive.productive place left.k h.literal left.entry opposed in
     let meets = h.productive.unifier.unifier.solves place left.k h.literal left.entry opposed in
     let x = (unified h.family h.literal).atom in

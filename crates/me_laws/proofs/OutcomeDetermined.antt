@@ -15,7 +15,7 @@ use Rattle.me_terms.specs.ListedInstances.{constant, instance_of, IsClosingInsta
 use Rattle.me_terms.specs.LeafList.{Demand, demands, IsAsserted, AddsNothing, Adds, none_waits, passes, adds, IsLeafList}
 use Rattle.me_terms.specs.Grown.{left_of, right_of}
 use Rattle.me_terms.specs.Outcome.{TreeOutcome, Closed, Sat, Met, both, HasOutcome, closes, is_exhausted, is_bounded, asserts, splits}
-use Rattle.me_terms.specs.Answer.{AnswerValue, answer_of, IsAnswer}
+use Rattle.me_terms.specs.Answer.{AnswerValue, answer_of, HasAnswer}
 use Rattle.me_terms.specs.declared.bounds.Bounds.{Bounds}
 use Rattle.me_terms.specs.declared.atom.Literal.{Literal}
 use Rattle.me_laws.proofs.Generality.{arguments_followed}
@@ -264,5 +264,5 @@ outcome_unique {problem} {bounds} (splits {context = context} {l = l} {kind = ki
     let rights = outcome_unique g x.1 x.3 in
     e ∙ ((λ n. both (lefts n) (rights n)) ∙ sym x.4)
 
-pub answer_unique : (problem : ProblemValue) (bounds : Bounds) (positive : Bool) (reply other : AnswerValue) → IsAnswer problem bounds positive reply → IsAnswer problem bounds positive other → reply ≡ other
+pub answer_unique : (problem : ProblemValue) (bounds : Bounds) (positive : Bool) (reply other : AnswerValue) → HasAnswer problem bounds positive reply → HasAnswer problem bounds positive other → reply ≡ other
 answer_unique problem bounds positive reply other f g = f.2 ∙ (ap (answer_of bounds) (outcome_unique f.1 g.0 g.1) ∙ sym g.2)

@@ -7,7 +7,7 @@ use Rattle.me_terms.specs.Contradictory.{IsConsistent}
 use Rattle.me_terms.specs.Next.{Exhausted, IsNext}
 use Rattle.me_terms.specs.Grown.{IsGrown, started, asserted, went_left, went_right}
 use Rattle.me_terms.specs.Outcome.{TreeOutcome, Closed, Sat, Met, both, HasOutcome, closes, is_exhausted, is_bounded, asserts, splits}
-use Rattle.me_terms.specs.Answer.{Unsatisfiable, Satisfiable, GaveUp, answer_of, IsAnswer}
+use Rattle.me_terms.specs.Answer.{Unsatisfiable, Satisfiable, GaveUp, answer_of, HasAnswer}
 use Rattle.me_terms.specs.InducedModel.{IsModel}
 use Rattle.me_terms.specs.declared.bounds.Bound.TheVariants as bound
 use Rattle.me_terms.specs.declared.bounds.Bounds.{Bounds}
@@ -53,7 +53,7 @@ by_outcome problem bounds positive context (Sat other) h e =
 by_outcome problem bounds positive context (Closed list) h e = absurd (no_list (nat_le (list_weight list) bounds.list) list context e)
 by_outcome problem bounds positive context (Met b) h e = cc e
 
-pub satisfiable_model : (problem : ProblemValue) (bounds : Bounds) (positive : Bool) (context : Context) → IsAnswer problem bounds positive (Satisfiable context) → IsContext context × IsConsistent context × IsModel problem context
+pub satisfiable_model : (problem : ProblemValue) (bounds : Bounds) (positive : Bool) (context : Context) → HasAnswer problem bounds positive (Satisfiable context) → IsContext context × IsConsistent context × IsModel problem context
 satisfiable_model problem bounds positive context reply =
     let h = by_outcome problem bounds positive context reply.0 (gives started reply.1) reply.2 in
     let whole = grown h.0 in (whole.0, whole.1, exhausted_model problem bounds context whole.0 h.1)

@@ -14,7 +14,7 @@ use Rattle.me_terms.specs.declared.atom.Literal.{Literal}
 
 -- Neither the literal of a Split nor its complement contradicts the context.
 abbrev pub SplitIsApart : Type 0
-SplitIsApart = (problem : ProblemValue) (bounds : Bounds) (context : Context) (c : ℕ) (tuple : List ℕ) (place size : ℕ) (l : Literal) → IsContext context → IsSplit problem bounds context c tuple place size l → (¬ IsContradictory context l (split_kind l)) × (¬ IsContradictory context (complement l) (split_kind l))
+SplitIsApart = (problem : ProblemValue) (bounds : Bounds) (context : Context) (c : ℕ) (tuple : List ℕ) (place size : ℕ) (l : Literal) → IsContext context → IsSplit problem bounds context c place tuple size l → (¬ IsContradictory context l (split_kind l)) × (¬ IsContradictory context (complement l) (split_kind l))
 
 -- Every context to which the rules lead is a context, and consistent.
 abbrev pub GrownIsConsistent : Type 0

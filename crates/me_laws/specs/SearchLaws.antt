@@ -6,7 +6,7 @@ use Rattle.me_terms.specs.Contradictory.{IsConsistent}
 use Rattle.me_terms.specs.Next.{NextValue, Exhausted, IsNext}
 use Rattle.me_terms.specs.LeafList.{IsLeafList}
 use Rattle.me_terms.specs.Outcome.{TreeOutcome, HasOutcome}
-use Rattle.me_terms.specs.Answer.{AnswerValue, Satisfiable, IsAnswer}
+use Rattle.me_terms.specs.Answer.{AnswerValue, Satisfiable, HasAnswer}
 use Rattle.me_terms.specs.InducedModel.{IsModel}
 use Rattle.me_terms.specs.declared.bounds.Bounds.{Bounds}
 
@@ -24,7 +24,7 @@ OutcomeIsDetermined = (problem : ProblemValue) (bounds : Bounds) (context : Cont
 
 -- A problem within bounds has at most one answer.
 abbrev pub AnswerIsDetermined : Type 0
-AnswerIsDetermined = (problem : ProblemValue) (bounds : Bounds) (positive : Bool) (reply other : AnswerValue) → IsAnswer problem bounds positive reply → IsAnswer problem bounds positive other → reply ≡ other
+AnswerIsDetermined = (problem : ProblemValue) (bounds : Bounds) (positive : Bool) (reply other : AnswerValue) → HasAnswer problem bounds positive reply → HasAnswer problem bounds positive other → reply ≡ other
 
 -- An exhausted context is a model of all ground instances.
 abbrev pub ExhaustedIsModel : Type 0
@@ -32,4 +32,4 @@ ExhaustedIsModel = (problem : ProblemValue) (bounds : Bounds) (context : Context
 
 -- The context of a Satisfiable answer is consistent, and a model of all ground instances.
 abbrev pub SatisfiableIsModel : Type 0
-SatisfiableIsModel = (problem : ProblemValue) (bounds : Bounds) (positive : Bool) (context : Context) → IsAnswer problem bounds positive (Satisfiable context) → IsContext context × IsConsistent context × IsModel problem context
+SatisfiableIsModel = (problem : ProblemValue) (bounds : Bounds) (positive : Bool) (context : Context) → HasAnswer problem bounds positive (Satisfiable context) → IsContext context × IsConsistent context × IsModel problem context

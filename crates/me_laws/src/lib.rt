@@ -1,14 +1,16 @@
-//! Laws of the calculus, each the contract of a function without a body.
+//! Laws of the calculus, each the contract of a function with an empty body.
 //!
 //! They say of the definitions of `me_terms` that they fit together: what is determined, what stays
 //! consistent, and that an exhausted context is a model.
 #![tactic(auto)]
 
+ghost use Rattle.me_laws.specs.CanonicalForm.{CanonicalFormIsTheVariant};
 ghost use Rattle.me_laws.specs.ContextLaws.{AddKeepsConsistency, ClashIsSymmetric, ContextIsTotal};
 ghost use Rattle.me_laws.specs.GrownLaws.{GrownIsConsistent, ReasonsHold, SplitIsApart};
 ghost use Rattle.me_laws.specs.SearchLaws.{AnswerIsDetermined, ExhaustedIsModel, LeafListIsDetermined, NextIsDetermined, OutcomeIsDetermined, SatisfiableIsModel};
 ghost use Rattle.me_laws.specs.TermLaws.{GeneralityIsOrder, VariantsAreAlike};
 ghost use Rattle.me_laws.specs.UnifierLaws.{ProductionLifts, UnifiersAgree, UnifiersExist};
+ghost use Rattle.me_laws.specs.UnifierMeasures.{UnifiersMeasureAlike};
 
 /// Being at least as general is reflexive and transitive.
 pub fn generality_is_order()
@@ -18,6 +20,11 @@ pub fn generality_is_order()
 /// Atoms that are instances of each other have the same canonical form, depth and weight.
 pub fn variants_are_alike()
     ensures { VariantsAreAlike }
+{}
+
+/// An atom's canonical form is its only canonical variant, and variants are what shares one.
+pub fn canonical_form_is_the_variant()
+    ensures { CanonicalFormIsTheVariant }
 {}
 
 /// What contradicts is contradicted.
@@ -43,6 +50,11 @@ pub fn unifiers_exist()
 /// Most general unifiers of the same places share their remainder and their literals' canonical forms.
 pub fn unifiers_agree()
     ensures { UnifiersAgree }
+{}
+
+/// A literal has the same depth, weight and groundness under each most general unifier.
+pub fn unifiers_measure_alike()
+    ensures { UnifiersMeasureAlike }
 {}
 
 /// Production lifts from a solution to a most general unifier.

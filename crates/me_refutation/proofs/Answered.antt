@@ -6,7 +6,7 @@ use Rattle.me_terms.specs.Values.{ProblemValue, InstanceValue}
 use Rattle.me_terms.specs.Validity.{IsValid}
 use Rattle.me_terms.specs.Grown.{start}
 use Rattle.me_terms.specs.Outcome.{TreeOutcome, Closed, Sat, Met, HasOutcome}
-use Rattle.me_terms.specs.Answer.{Unsatisfiable, GaveUp, answer_of, IsAnswer}
+use Rattle.me_terms.specs.Answer.{Unsatisfiable, GaveUp, answer_of, HasAnswer}
 use Rattle.me_terms.specs.declared.bounds.Bound.TheVariants as bound
 use Rattle.me_terms.specs.declared.bounds.Bounds.{Bounds}
 use Rattle.me_refutation.specs.Refutation.{ClosedIsRefutedBy}
@@ -27,7 +27,7 @@ given bounds list (Closed l) h =
     let P : List InstanceValue → Type 0 = λ x. (Closed l ≡ Closed x) × (list_weight x ≤ bounds.list) in
     subst P both.0 (refl, both.1)
 
-pub unsatisfiable_refuted : (problem : ProblemValue) (bounds : Bounds) (positive : Bool) (list : List InstanceValue) → IsValid problem → IsAnswer problem bounds positive (Unsatisfiable list) → ClosedIsRefutedBy problem list × (list_weight list ≤ bounds.list)
+pub unsatisfiable_refuted : (problem : ProblemValue) (bounds : Bounds) (positive : Bool) (list : List InstanceValue) → IsValid problem → HasAnswer problem bounds positive (Unsatisfiable list) → ClosedIsRefutedBy problem list × (list_weight list ≤ bounds.list)
 unsatisfiable_refuted problem bounds positive list valid h =
     let from = given bounds list h.0 h.2 in
     let P : TreeOutcome → Type 0 = λ o. HasOutcome problem bounds (start positive) o in

@@ -8,7 +8,7 @@ use Rattle.me_terms.specs.Variables.{variables_of, are_ground, canonical}
 use Rattle.me_terms.specs.Measures.{canonical_literal}
 use Rattle.me_terms.specs.Values.{ProblemValue, ClauseValue, EntryValue, ReasonValue}
 use Rattle.me_terms.specs.Context.{Context, StandsAt, IsAtomWith}
-use Rattle.me_terms.specs.Positions.{positions_of, Opposes, entry_at}
+use Rattle.me_terms.specs.Positions.{positions_of, StandsAgainst, entry_at}
 use Rattle.me_terms.specs.Unifier.{Solves, IsUnifier, IsContextUnifier, unified}
 use Rattle.me_terms.specs.Remainder.{remainder}
 use Rattle.me_terms.specs.Assert.{uses_universal, asserted_entry}
@@ -148,7 +148,7 @@ module _ (problem : ProblemValue) (valid : IsValid problem) (bounds : Bounds) (c
   ground_constant h =
       let ground = ground_canonical matched h in ground_atom q.matching matched ground ∙ sym (ground_atom (λ x. c0) matched ground)
 
-  reads : (i j : ℕ) (l : Literal) (f : EntryValue) → Opposes before ls ks i l j f → f.kind ≡ Parametric → (y : ℕ) → q.matching y ≡ c0
+  reads : (i j : ℕ) (l : Literal) (f : EntryValue) → StandsAgainst before ls ks i l j f → f.kind ≡ Parametric → (y : ℕ) → q.matching y ≡ c0
   reads i j l f o parametric =
       elim (kind_cases (list_all (λ p. uses_universal (entry_at before p)) ks) (are_ground (canonical matched).args) e.kind (ap (λ (x : EntryValue). x.kind) entry_is)) as (λ _. (y : ℕ) → q.matching y ≡ c0) [
         | inl universal ↦ absurd (not_both f.kind (universal_at before ks i j f universal o.position o.stands) parametric)

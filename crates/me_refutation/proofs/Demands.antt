@@ -8,8 +8,8 @@ use Rattle.me_terms.specs.Variables.{variables_of}
 use Rattle.me_terms.specs.Measures.{complement}
 use Rattle.me_terms.specs.Values.{ProblemValue, EntryValue}
 use Rattle.me_terms.specs.Context.{Context, StandsAt, IsAtomWith}
-use Rattle.me_terms.specs.Positions.{Opposes, AreOpposite}
-use Rattle.me_terms.specs.Unifier.{Meets, Solves, unified}
+use Rattle.me_terms.specs.Positions.{StandsAgainst, AreOpposite}
+use Rattle.me_terms.specs.Unifier.{IsSolvedBy, Solves, unified}
 use Rattle.me_terms.specs.Remainder.{is_variable, is_remaining, remainder}
 use Rattle.me_terms.specs.GroundInstances.{is_ground_term, are_ground_terms}
 use Rattle.me_terms.specs.ListedInstances.{constant, instance_of}
@@ -50,7 +50,7 @@ all_read t m c reads (x ∷ xs) h =
     let parts = either_false (is_variable (t x)) (list_any (λ y. not (is_variable (t y))) xs) h in
     (sym (variable_reads m c (t x) parts.0 reads), all_read t m c reads xs parts.1)
 
-holds_by : (c : TermValue) (kind : Kind) (p : Pattern) (t s m : Substitution) (a : AtomValue) → is_remaining kind p t ≡ false → Meets t p s a → (kind ≡ Parametric → (y : ℕ) → m y ≡ c) → IsAtomWith (λ b. IsInstance b (apply_atom m (apply_atom s a)) × (kind ≡ Parametric → apply_atom (λ x. c) b ≡ apply_atom m (apply_atom s a))) p
+holds_by : (c : TermValue) (kind : Kind) (p : Pattern) (t s m : Substitution) (a : AtomValue) → is_remaining kind p t ≡ false → IsSolvedBy t p s a → (kind ≡ Parametric → (y : ℕ) → m y ≡ c) → IsAtomWith (λ b. IsInstance b (apply_atom m (apply_atom s a)) × (kind ≡ Parametric → apply_atom (λ x. c) b ≡ apply_atom m (apply_atom s a))) p
 holds_by c kind Any t s m a free meets reads = cc
 holds_by c Universal (Of b) t s m a free meets reads = ((followed_by t m, atom_followed t m b ∙ ap (apply_atom m) meets), λ k. cc k)
 holds_by c Parametric (Of b) t s m a free meets reads =
@@ -70,13 +70,13 @@ each_demand P f (l ∷ ls) (Some k ∷ ks) h = (h 0 k l refl refl, each_demand P
 abbrev pub IsRightBelow : ProblemValue → Context → ℕ → Demand → Type 0
 IsRightBelow problem context n d = (d.0 < n) × IsRight problem context d
 
-pub right_demands : (problem : ProblemValue) (before context : Context) (literals : List Literal) (positions : List (Option ℕ)) (u : Family) (m : Substitution) → ((k : ℕ) → k < length before → slice_get before k ≡ slice_get context k) → AreOpposite before literals positions → Solves before literals positions u → remainder before positions u ≡ [] → ((i k : ℕ) (l : Literal) (e : EntryValue) → Opposes before literals positions i l k e → e.kind ≡ Parametric → (y : ℕ) → m y ≡ constant problem.c0) → AreKnownLiterals problem.signature literals → ((x : ℕ) → is_ground_term problem (apply_term m (u 0 x)) ≡ true) → EachOf (IsRightBelow problem context (length before)) (demands (instance_of u m literals) positions)
+pub right_demands : (problem : ProblemValue) (before context : Context) (literals : List Literal) (positions : List (Option ℕ)) (u : Family) (m : Substitution) → ((k : ℕ) → k < length before → slice_get before k ≡ slice_get context k) → AreOpposite before literals positions → Solves before literals positions u → remainder before positions u ≡ [] → ((i k : ℕ) (l : Literal) (e : EntryValue) → StandsAgainst before literals positions i l k e → e.kind ≡ Parametric → (y : ℕ) → m y ≡ constant problem.c0) → AreKnownLiterals problem.signature literals → ((x : ℕ) → is_ground_term problem (apply_term m (u 0 x)) ≡ true) → EachOf (IsRightBelow problem context (length before)) (demands (instance_of u m literals) positions)
 right_demands problem before context literals positions u m agree opposite solves none reads known ground =
     each_demand (IsRightBelow problem context (length before)) (λ l. apply_literal m (unified u l)) literals positions (λ i k l at pos.
     let seen = opposite.visible i k l at pos in
     let e = seen.0 in
     let below : k < length before = slice_get_within before k e seen.1.0 in
-    let opposed : Opposes before literals positions i l k e = record { literal = at; position = pos; stands = seen.1.0 } in
+    let opposed : StandsAgainst before literals positions i l k e = record { literal = at; position = pos; stands = seen.1.0 } in
     let free = none_left before positions u 0 none i k e pos seen.1.0 i (omega arith) in
     let groundness : are_ground_terms problem (apply_arguments (followed_by (u 0) m) l.atom.args) ≡ true = all_ground_under problem (followed_by (u 0) m) ground l.atom.args (known i l at) in
     let P : Arguments → Type 0 = λ ts. are_ground_terms problem ts ≡ true in

@@ -5,7 +5,7 @@ use Rattle.me_terms.specs.Substitutions.{Substitution, Family, apply_term, apply
 use Rattle.me_terms.specs.Variables.{count}
 use Rattle.me_terms.specs.Values.{SignatureValue}
 use Rattle.me_terms.specs.Context.{Context}
-use Rattle.me_terms.specs.Unifier.{Meets, Solves, IsUnifier}
+use Rattle.me_terms.specs.Unifier.{IsSolvedBy, Solves, IsUnifier}
 use Rattle.me_terms.specs.Signatures.{is_known, are_known, takes}
 use Rattle.me_terms.specs.TermEqualityLaws.{both_parts}
 use Rattle.me_terms.specs.declared.atom.Literal.{Literal}
@@ -58,7 +58,7 @@ mutual
       λ i. Cons (first i) (later i)
 
 -- ---- the unifier
-clean_meets : (names : SignatureValue) (t : Substitution) (p : Pattern) (s : Substitution) (a : AtomValue) → IsKnownPattern names p → are_known names a.args ≡ true → Meets t p s a → Meets (λ x. clean names (t x)) p (λ x. clean names (s x)) a
+clean_meets : (names : SignatureValue) (t : Substitution) (p : Pattern) (s : Substitution) (a : AtomValue) → IsKnownPattern names p → are_known names a.args ≡ true → IsSolvedBy t p s a → IsSolvedBy (λ x. clean names (t x)) p (λ x. clean names (s x)) a
 clean_meets names t Any s a f g m = tt
 clean_meets names t (Of b) s a f g m =
     let pred : b.pred ≡ a.pred = ap (λ (c : AtomValue). c.pred) m in

@@ -8,7 +8,7 @@ use Rattle.me_terms.specs.Refuted.{IsRefuted}
 use Rattle.me_terms.specs.Measures.{list_weight}
 use Rattle.me_terms.specs.Grown.{start}
 use Rattle.me_terms.specs.Outcome.{Closed, HasOutcome}
-use Rattle.me_terms.specs.Answer.{Unsatisfiable, IsAnswer}
+use Rattle.me_terms.specs.Answer.{Unsatisfiable, HasAnswer}
 use Rattle.me_terms.specs.declared.bounds.Bounds.{Bounds}
 
 -- The list of a closed tree: under every valuation some clause of it is false, and each instance of it is a ground instance of its clause.
@@ -22,4 +22,4 @@ ClosedIsRefuted = (problem : ProblemValue) (bounds : Bounds) (positive : Bool) (
 
 -- The same of an answer, whose list is within the list bound.
 abbrev pub UnsatisfiableIsRefuted : Type 0
-UnsatisfiableIsRefuted = (problem : ProblemValue) (bounds : Bounds) (positive : Bool) (list : List InstanceValue) → IsValid problem → IsAnswer problem bounds positive (Unsatisfiable list) → ClosedIsRefutedBy problem list × (list_weight list ≤ bounds.list)
+UnsatisfiableIsRefuted = (problem : ProblemValue) (bounds : Bounds) (positive : Bool) (list : List InstanceValue) → IsValid problem → HasAnswer problem bounds positive (Unsatisfiable list) → ClosedIsRefutedBy problem list × (list_weight list ≤ bounds.list)

@@ -1,5 +1,5 @@
 //! The refutation theorem, as laws of the definitions of `me_terms`, each the contract of a function
-//! without a body.
+//! with an empty body.
 //!
 //! The list of a closed tree consists of ground instances that no choice of truth values makes true.
 #![tactic(auto)]

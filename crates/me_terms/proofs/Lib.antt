@@ -1,1 +1,2 @@
 pub mod Matchers
+pub mod Numbered

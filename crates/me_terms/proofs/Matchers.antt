@@ -10,7 +10,7 @@ use Rattle.std.proofs.lemmas.Grind.{common_steps}
 use Rattle.std.specs.Prelude.{if◌then◌else◌}
 use Rattle.me_terms.specs.Terms.{TermValue, Var, App, Arguments, Nil, Cons, arguments_of, AtomValue}
 use Rattle.me_terms.specs.Matchers.{found, found_all, agrees, agree, or_later, is_value}
-use Rattle.me_terms.specs.Substitutions.{Substitution, apply_term, apply_arguments, apply_atom, or_var, IsInstance}
+use Rattle.me_terms.specs.Substitutions.{Substitution, apply_term, apply_arguments, apply_atom, IsInstance}
 use Rattle.me_terms.specs.TermEqualityLaws.{same_term_sound, same_term_itself, both_parts}
 
 pub found_all_none : (x : ℕ) (ss : Arguments) → found_all x ss Nil ≡ None
@@ -33,6 +33,11 @@ agree_lengths b (x ∷ xs) (y ∷ ys) h =
     let shorter : length xs ≢ length ys = omega arith in rw (agree_lengths b xs ys shorter, and-false)
 
 -- ---- soundness
+-- What is found for x, or x itself.
+abbrev pub or_var : ℕ → Option TermValue → TermValue
+or_var x None = Var x
+or_var x (Some t) = t
+
 value_sound : (x : ℕ) (o : Option TermValue) (t : TermValue) → is_value o t ≡ true → or_var x o ≡ t
 value_sound x None t h = cc
 value_sound x (Some u) t h = same_term_sound u t h

@@ -22,6 +22,6 @@ answer_of bounds (Closed list) = if nat_le (list_weight list) bounds.list then U
 answer_of bounds (Met b) = GaveUp b
 
 -- The answer: that of the outcome of the tree of the pseudo-literal alone, of that sign.
-abbrev pub IsAnswer : ProblemValue → Bounds → Bool → AnswerValue → Type 0
-IsAnswer problem bounds positive reply =
+abbrev pub HasAnswer : ProblemValue → Bounds → Bool → AnswerValue → Type 0
+HasAnswer problem bounds positive reply =
     (outcome : TreeOutcome) × HasOutcome problem bounds (start positive) outcome × (reply ≡ answer_of bounds outcome)

@@ -17,6 +17,7 @@ use Rattle.me_terms.specs.declared.entry.Kind.TheVariants.{Universal, Parametric
 use Rattle.me_terms.specs.declared.atom.Literal.{Literal}
 use Rattle.me_terms.specs.declared.atom.Pattern.TheVariants.{Of}
 
+-- The kind is Universal.
 abbrev pub is_universal : Kind → Bool
 is_universal Universal = true
 is_universal Parametric = false
@@ -69,6 +70,7 @@ pub record IsAssert (problem : ProblemValue) (bounds : Bounds) (context : Contex
   pub entry : e ≡ asserted_entry context c place tuple (canonical_literal (unified family literal))
   pub allowed : MayAssert bounds context (canonical_literal (unified family literal)) e.kind
 
+-- Some entry may be asserted.
 abbrev pub HasAssert : ProblemValue → Bounds → Context → Type 0
 HasAssert problem bounds context =
     (c place : ℕ) × (tuple : List ℕ) × (e : EntryValue) × IsAssert problem bounds context c place tuple e

@@ -15,5 +15,6 @@ pub record IsClose (problem : ProblemValue) (context : Context) (c : ℕ) (tuple
   pub unifier : IsContextUnifier context clause.literals None tuple family
   pub no_remainder : remainder context (positions_of None tuple) family ≡ []
 
+-- Some clause of the problem closes the context.
 abbrev pub HasClose : ProblemValue → Context → Type 0
 HasClose problem context = (c : ℕ) × (tuple : List ℕ) × IsClose problem context c tuple

@@ -6,10 +6,12 @@ use Rattle.me_terms.specs.TermEquality.{same_atom}
 use Rattle.me_terms.specs.Values.{InstanceValue}
 use Rattle.me_terms.specs.declared.atom.Literal.{Literal}
 
+-- Both are true, or both are false.
 abbrev pub same_sign_as : Bool → Bool → Bool
 same_sign_as true b = b
 same_sign_as false b = not b
 
+-- The same sign and the same atom.
 abbrev pub same_literal : Literal → Literal → Bool
 same_literal l m = same_sign_as l.positive m.positive && same_atom l.atom m.atom
 

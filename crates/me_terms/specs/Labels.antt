@@ -5,9 +5,11 @@ use Rattle.me_terms.specs.Values.{LabelValue, SymbolValue}
 use Rattle.me_terms.specs.declared.symbol.Form.{Form}
 use Rattle.me_terms.specs.declared.symbol.Form.TheVariants.{Word, Distinct, Number}
 
+-- A byte from the blank to the tilde.
 abbrev pub is_printable : ℕ → Bool
 is_printable byte = nat_le 32 byte && nat_le byte 126
 
+-- A decimal digit.
 abbrev pub is_digit : ℕ → Bool
 is_digit byte = nat_le 48 byte && nat_le byte 57
 
@@ -17,6 +19,7 @@ IsReadableAs Word text = (text ≢ []) × IsTrue (list_all is_printable text)
 IsReadableAs Distinct text = IsTrue (list_all is_printable text)
 IsReadableAs Number text = (text ≢ []) × IsTrue (list_all is_digit text)
 
+-- The label's text is one that its form can have in a file.
 abbrev pub IsReadable : LabelValue → Type 0
 IsReadable label = IsReadableAs label.form label.text
 
@@ -30,9 +33,9 @@ IsFunctionForm Word arity = Unit {0}
 IsFunctionForm Distinct arity = arity ≡ 0
 IsFunctionForm Number arity = ⊥
 
-abbrev pub IsFunction : SymbolValue → Type 0
-IsFunction symbol = IsReadable symbol.label × IsFunctionForm symbol.label.form symbol.arity
+abbrev pub IsFunctionSymbol : SymbolValue → Type 0
+IsFunctionSymbol symbol = IsReadable symbol.label × IsFunctionForm symbol.label.form symbol.arity
 
 -- A predicate's label is a word.
-abbrev pub IsPredicate : SymbolValue → Type 0
-IsPredicate symbol = IsReadable symbol.label × (symbol.label.form ≡ Word)
+abbrev pub IsPredicateSymbol : SymbolValue → Type 0
+IsPredicateSymbol symbol = IsReadable symbol.label × (symbol.label.form ≡ Word)

@@ -16,10 +16,10 @@ pub mod LeafList
 pub mod ListedInstances
 pub mod Matchers
 pub mod Measures
+pub mod Names
 pub mod Next
 pub mod Order
 pub mod Outcome
-pub mod Pairing
 pub mod Positions
 pub mod Produces
 pub mod Productive

@@ -1,9 +1,17 @@
 -- Depth and weight of literals, clauses and instances, and a literal's complement and canonical form.
-use Rattle.std.specs.Prelude.{ℕ, ◌+◌, not, List}
+use Rattle.std.specs.Prelude.{ℕ, ◌+◌, min, not, List}
 use Rattle.std.specs.List.{sum_by}
 use Rattle.me_terms.specs.Variables.{depths, weights, canonical}
 use Rattle.me_terms.specs.Values.{InstanceValue}
 use Rattle.me_terms.specs.declared.atom.Literal.{Literal}
+
+-- The greatest number that a u64 holds.
+abbrev pub GREATEST_U64 : ℕ
+GREATEST_U64 = 0xffff_ffff_ffff_ffff
+
+-- A count as a u64 shows it: it stops at the greatest u64.
+abbrev pub capped : ℕ → ℕ
+capped n = min n GREATEST_U64
 
 -- An atom has the greatest depth of its arguments, or 0 without any.
 abbrev pub literal_depth : Literal → ℕ

@@ -26,7 +26,7 @@ pub data NextValue : Type 0 where
   Exhausted : NextValue
   Bounded : Bound → NextValue
 
--- All entries count, hidden ones and the pseudo-literal too.
+-- The context may get a further entry: it has fewer entries than the bound on literals, hidden ones and the pseudo-literal counted.
 abbrev pub HasRoom : Bounds → Context → Type 0
 HasRoom bounds context = length context < bounds.literals
 

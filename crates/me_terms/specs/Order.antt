@@ -14,7 +14,7 @@ use Rattle.me_terms.specs.declared.atom.Literal.{Literal}
 use Rattle.me_terms.specs.declared.atom.Pattern.{Pattern}
 use Rattle.me_terms.specs.declared.atom.Pattern.TheVariants.{Any, Of}
 
--- The key is the other's, or comes before it.
+-- The key stands at or before the other one lexicographically: at the first place where they differ it has the smaller number, or it ends there or before.
 abbrev pub Precedes : List ℕ → List ℕ → Type 0
 Precedes [] other = ⊤
 Precedes (x ∷ key) [] = ⊥
@@ -24,6 +24,7 @@ Precedes (x ∷ key) (y ∷ other) = (x < y) ⊎ ((x ≡ y) × Precedes key othe
 abbrev pub clause_key : ℕ → List ℕ → List ℕ
 clause_key c tuple = c ∷ tuple
 
+-- Universal stands before Parametric.
 abbrev pub kind_rank : Kind → ℕ
 kind_rank Universal = 0
 kind_rank Parametric = 1
@@ -56,5 +57,5 @@ IsLeastAssert problem bounds context e =
 -- No Split comes before one on the literal l.
 abbrev pub IsLeastSplit : ProblemValue → Bounds → Context → Literal → Type 0
 IsLeastSplit problem bounds context l =
-    (c place size : ℕ) × (tuple : List ℕ) × IsSplit problem bounds context c tuple place size l
-    × ((c' place' size' : ℕ) (tuple' : List ℕ) (l' : Literal) → IsSplit problem bounds context c' tuple' place' size' l' → Precedes (split_key c tuple place size l) (split_key c' tuple' place' size' l'))
+    (c place size : ℕ) × (tuple : List ℕ) × IsSplit problem bounds context c place tuple size l
+    × ((c' place' size' : ℕ) (tuple' : List ℕ) (l' : Literal) → IsSplit problem bounds context c' place' tuple' size' l' → Precedes (split_key c tuple place size l) (split_key c' tuple' place' size' l'))

@@ -20,7 +20,7 @@ entry_at context None = None
 entry_at context (Some k) = slice_get context k
 
 -- At place i stand the literal l, position k, and the entry e of that position.
-pub record Opposes (context : Context) (literals : List Literal) (positions : List (Option ℕ)) (i : ℕ) (l : Literal) (k : ℕ) (e : EntryValue) : Type 0 where
+pub record StandsAgainst (context : Context) (literals : List Literal) (positions : List (Option ℕ)) (i : ℕ) (l : Literal) (k : ℕ) (e : EntryValue) : Type 0 where
   pub literal : slice_get literals i ≡ Some l
   pub position : slice_get positions i ≡ Some (Some k)
   pub stands : StandsAt context k e

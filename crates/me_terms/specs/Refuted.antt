@@ -9,6 +9,7 @@ use Rattle.me_terms.specs.declared.atom.Literal.{Literal}
 abbrev pub Valuation : Type 0
 Valuation = AtomValue → Bool
 
+-- The atom has the truth value that makes the literal false.
 abbrev pub IsFalseUnder : Valuation → Literal → Type 0
 IsFalseUnder value l = value l.atom ≡ not l.positive
 

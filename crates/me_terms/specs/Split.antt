@@ -21,7 +21,7 @@ abbrev pub split_kind : Literal → Kind
 split_kind l = if are_ground l.atom.args then Universal else Parametric
 
 -- The literal l may be split on at a place of clause c and the tuple, whose remainder has so many places.
-pub record IsSplit (problem : ProblemValue) (bounds : Bounds) (context : Context) (c : ℕ) (tuple : List ℕ) (place size : ℕ) (l : Literal) : Type 0 where
+pub record IsSplit (problem : ProblemValue) (bounds : Bounds) (context : Context) (c place : ℕ) (tuple : List ℕ) (size : ℕ) (l : Literal) : Type 0 where
   pub clause : ClauseValue
   pub literal : Literal
   pub family : Family
@@ -32,6 +32,7 @@ pub record IsSplit (problem : ProblemValue) (bounds : Bounds) (context : Context
   pub split_literal : l ≡ canonical_literal (unified family literal)
   pub fits : Fits bounds l
 
+-- Some literal may be split on.
 abbrev pub HasSplit : ProblemValue → Bounds → Context → Type 0
 HasSplit problem bounds context =
-    (c place size : ℕ) × (tuple : List ℕ) × (l : Literal) × IsSplit problem bounds context c tuple place size l
+    (c place size : ℕ) × (tuple : List ℕ) × (l : Literal) × IsSplit problem bounds context c place tuple size l

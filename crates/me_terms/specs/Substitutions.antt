@@ -1,13 +1,15 @@
 -- Substitutions, and the order by generality.
-use Rattle.std.specs.Prelude.{◌≡◌, ℕ, List, [], ◌∷◌, Option, Some, None, eqb, if◌then◌else◌, ⊤}
+use Rattle.std.specs.Prelude.{◌≡◌, ℕ, ⊤}
 use Rattle.me_terms.specs.Terms.{TermValue, Var, App, Arguments, Nil, Cons, AtomValue}
 use Rattle.me_terms.specs.declared.atom.Literal.{Literal}
 use Rattle.me_terms.specs.declared.atom.Pattern.{Pattern}
 use Rattle.me_terms.specs.declared.atom.Pattern.TheVariants.{Any, Of}
 
+-- A term for each variable.
 abbrev pub Substitution : Type 0
 Substitution = ℕ → TermValue
 
+-- The term, the arguments, the atom or the literal with each variable replaced by what the substitution has for it.
 abbrev mutual
   pub apply_term : Substitution → TermValue → TermValue
   apply_term s (Var x) = s x
@@ -27,21 +29,6 @@ apply_literal s l = record { positive = l.positive; atom = apply_atom s l.atom }
 abbrev pub followed_by : Substitution → Substitution → Substitution
 followed_by s r x = apply_term r (s x)
 
--- A finite substitution: what it does not name stays.
-abbrev pub Bindings : Type 0
-Bindings = List (ℕ × TermValue)
-
-abbrev pub bound : Bindings → ℕ → Option TermValue
-bound [] x = None
-bound (b ∷ bs) x = if eqb b.0 x then Some b.1 else bound bs x
-
-abbrev pub or_var : ℕ → Option TermValue → TermValue
-or_var x None = Var x
-or_var x (Some t) = t
-
-abbrev pub substitution_of : Bindings → Substitution
-substitution_of bs x = or_var x (bound bs x)
-
 -- b is an instance of a
 abbrev pub IsInstance : AtomValue → AtomValue → Type 0
 IsInstance a b = (s : Substitution) × (apply_atom s a ≡ b)
@@ -52,9 +39,11 @@ Generalizes Any q = ⊤
 Generalizes (Of a) Any = ⊥
 Generalizes (Of a) (Of b) = IsInstance a b
 
+-- Each is as general as the other.
 abbrev pub IsVariant : Pattern → Pattern → Type 0
 IsVariant p q = Generalizes p q × Generalizes q p
 
+-- p is more general than q, and q is not more general than p.
 abbrev pub IsStrictlyMoreGeneral : Pattern → Pattern → Type 0
 IsStrictlyMoreGeneral p q = Generalizes p q × ¬ Generalizes q p
 

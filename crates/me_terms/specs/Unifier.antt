@@ -4,20 +4,20 @@ use Rattle.me_terms.specs.Terms.{AtomValue}
 use Rattle.me_terms.specs.Substitutions.{Substitution, Family, apply_term, apply_atom, apply_literal}
 use Rattle.me_terms.specs.Values.{EntryValue}
 use Rattle.me_terms.specs.Context.{Context}
-use Rattle.me_terms.specs.Positions.{positions_of, Opposes, AreOpposite}
+use Rattle.me_terms.specs.Positions.{positions_of, StandsAgainst, AreOpposite}
 use Rattle.me_terms.specs.declared.atom.Literal.{Literal}
 use Rattle.me_terms.specs.declared.atom.Pattern.{Pattern}
 use Rattle.me_terms.specs.declared.atom.Pattern.TheVariants.{Any, Of}
 
 -- The pattern under t is the atom under s. The pseudo-atom gives no equation.
-abbrev pub Meets : Substitution → Pattern → Substitution → AtomValue → Type 0
-Meets t Any s a = ⊤
-Meets t (Of b) s a = apply_atom t b ≡ apply_atom s a
+abbrev pub IsSolvedBy : Substitution → Pattern → Substitution → AtomValue → Type 0
+IsSolvedBy t Any s a = ⊤
+IsSolvedBy t (Of b) s a = apply_atom t b ≡ apply_atom s a
 
 -- The family solves the equation of each place: between the entry's atom in the place's space and the literal's atom in space 0.
 abbrev pub Solves : Context → List Literal → List (Option ℕ) → Family → Type 0
 Solves context literals positions u =
-    (i k : ℕ) (l : Literal) (e : EntryValue) → Opposes context literals positions i l k e → Meets (u (i + 1)) e.atom (u 0) l.atom
+    (i k : ℕ) (l : Literal) (e : EntryValue) → StandsAgainst context literals positions i l k e → IsSolvedBy (u (i + 1)) e.atom (u 0) l.atom
 
 -- The family is a most general unifier. 'Most general' ranges over every variable of every space, also over those that occur in no equation: each other solution is the family, followed by one substitution.
 pub record IsUnifier (context : Context) (literals : List Literal) (positions : List (Option ℕ)) (u : Family) : Type 0 where

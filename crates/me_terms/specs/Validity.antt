@@ -1,7 +1,7 @@
 -- When a problem is valid, and when bounds are lawful.
 use Rattle.std.specs.Prelude.{◌≡◌, ℕ, ◌-◌, ◌^◌, ◌<◌, ◌≤◌, List, length, slice_get, IsTrue}
 use Rattle.std.specs.List.{All, list_all, flat_map}
-use Rattle.me_terms.specs.Labels.{IsClauseLabel, IsFunction, IsPredicate}
+use Rattle.me_terms.specs.Labels.{IsClauseLabel, IsFunctionSymbol, IsPredicateSymbol}
 use Rattle.me_terms.specs.Signatures.{takes, is_known_atom}
 use Rattle.me_terms.specs.Variables.{variables_of, is_numbered_from}
 use Rattle.me_terms.specs.Values.{SignatureValue, ClauseValue, ProblemValue}
@@ -23,8 +23,8 @@ pub record IsValidClause (signature : SignatureValue) (clause : ClauseValue) : T
 pub record IsValid (problem : ProblemValue) : Type 0 where
   pub clauses : All (IsValidClause problem.signature) problem.clauses
   pub few_clauses : length problem.clauses < 2 ^ 32 - 1
-  pub functions : All IsFunction problem.signature.functions
-  pub predicates : All IsPredicate problem.signature.predicates
+  pub functions : All IsFunctionSymbol problem.signature.functions
+  pub predicates : All IsPredicateSymbol problem.signature.predicates
   pub c0_constant : IsTrue (takes (slice_get problem.signature.functions problem.c0) 0)
 
 -- Each bound stands in its range.

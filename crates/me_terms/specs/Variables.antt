@@ -1,5 +1,5 @@
 -- Variables, groundness, depth and weight of terms.
-use Rattle.std.specs.Prelude.{ℕ, ◌+◌, Bool, true, false, ◌&&◌, List, [], ◌∷◌, ◌++◌, max, min, eqb, ltb, if◌then◌else◌}
+use Rattle.std.specs.Prelude.{ℕ, ◌+◌, Bool, true, false, ◌&&◌, List, [], ◌∷◌, ◌++◌, max, eqb, ltb, if◌then◌else◌}
 use Rattle.std.specs.List.{list_any}
 use Rattle.me_terms.specs.Terms.{TermValue, Var, App, Arguments, Nil, Cons, AtomValue}
 use Rattle.me_terms.specs.Substitutions.{apply_atom}
@@ -14,6 +14,7 @@ abbrev mutual
   variables_of Nil = []
   variables_of (Cons t ts) = term_variables t ++ variables_of ts
 
+-- No variable stands in it.
 abbrev mutual
   pub is_ground : TermValue → Bool
   is_ground (Var x) = false
@@ -42,13 +43,6 @@ abbrev mutual
   pub depths : Arguments → ℕ
   depths Nil = 0
   depths (Cons t ts) = max (depth t) (depths ts)
-
-abbrev pub GREATEST_U64 : ℕ
-GREATEST_U64 = 0xffff_ffff_ffff_ffff
-
--- a count stops at 2^64 - 1
-abbrev pub capped : ℕ → ℕ
-capped n = min n GREATEST_U64
 
 -- Variables are numbered from n on, in the order in which they first stand.
 abbrev pub is_numbered_from : ℕ → List ℕ → Bool

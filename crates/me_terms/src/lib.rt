@@ -1,4 +1,5 @@
-//! The types of the prover: terms, literals, clauses and problems, the entries of a context, and answers.
+//! The types of the prover: terms, literals, clauses and problems, the entries of a context, what a context
+//! is to its readers, and answers; and matching and canonical forms of literals.
 //!
 //! Two values of these types are equal in a contract exactly where they are written alike. The
 //! definitions of the calculus over them stand in `specs/`.
@@ -8,6 +9,7 @@ mod again;
 mod answer;
 mod atom;
 mod bounds;
+mod canonical_form;
 mod clause;
 mod entry;
 mod matching;
@@ -18,14 +20,16 @@ mod signature;
 mod symbol;
 mod term;
 mod tuple;
+mod view;
 
 pub use again::Again;
 pub use answer::{Answer, Instance, Instances, Next};
 pub use atom::{Atom, Literal, Literals, Pattern};
 pub use bounds::{Bound, Bounds};
+pub use canonical_form::canonical;
 pub use clause::{Clause, Clauses};
 pub use entry::{Entries, Entry, Kind, Reason};
-pub use matching::matches;
+pub use matching::{generalizes, is_variant, matches, strictly_more_general};
 pub use measures::{depth_of, is_ground, weight_of};
 pub use problem::Problem;
 pub use sequence::{Places, Sequence};
@@ -33,6 +37,7 @@ pub use signature::Signature;
 pub use symbol::{Form, Label, Symbol, Text};
 pub use term::{Term, Terms};
 pub use tuple::Tuple;
+pub use view::{Refused, Trunk, View};
 
 #[cfg(test)]
 mod tests;

@@ -1,4 +1,4 @@
-//! Matching: whether one atom is an instance of another.
+//! Generality: whether one atom is an instance of another, and whether they are variants.
 //!
 //! The value of a variable is what stands where the variable first stands, so no memory is taken.
 ghost use Rattle.std.specs.Prelude.{◌≡◌, ◌&&◌, eqb, ◌↔◌, IsTrue, option_map};
@@ -6,7 +6,7 @@ ghost use Rattle.std.specs.Option.{option_copied};
 ghost use Rattle.me_terms.specs.TermViews.{term_value};
 ghost use Rattle.me_terms.specs.Terms.{arguments_of};
 ghost use Rattle.me_terms.specs.Matchers.{found, found_all, agrees, agree};
-ghost use Rattle.me_terms.specs.Substitutions.{Generalizes};
+ghost use Rattle.me_terms.specs.Substitutions.{Generalizes, IsInstance, IsVariant, IsStrictlyMoreGeneral};
 ghost use Rattle.me_terms.specs.declared.atom.Pattern.TheVariants as pattern;
 
 use crate::atom::{Atom, Pattern};
@@ -79,15 +79,40 @@ impl Terms {
     }
 }
 
-/// Whether some substitution takes the general one to the special one.
+/// Whether some substitution takes the general atom to the special one.
 #[tactic(auto, using(crate::proofs::Matchers::matches_iff, crate::proofs::Matchers::preds_differ))]
+pub fn generalizes(general: &Atom, special: &Atom) -> bool
+    ensures { IsTrue result ↔ IsInstance general.now special.now }
+{
+    general.pred == special.pred
+        && general
+            .args
+            .agree(&special.args, &general.args, &special.args)
+}
+
+/// Whether some substitution takes the general one to the special one. The pseudo-atom is above every atom.
 pub fn matches(general: &Pattern, special: &Atom) -> bool
     ensures { IsTrue result ↔ Generalizes general.now (pattern.Of special.now) }
 {
     match general {
         Pattern::Any => true,
-        Pattern::Of(atom) => {
-            atom.pred == special.pred && atom.args.agree(&special.args, &atom.args, &special.args)
-        }
+        Pattern::Of(atom) => generalizes(atom, special),
+    }
+}
+
+/// Whether the atoms differ at most in the names of their variables: each is an instance of the other.
+pub fn is_variant(a: &Atom, b: &Atom) -> bool
+    ensures { IsTrue result ↔ IsVariant (pattern.Of a.now) (pattern.Of b.now) }
+{
+    generalizes(a, b) && generalizes(b, a)
+}
+
+/// Whether the atom is an instance of the pattern, and not the other way round.
+pub fn strictly_more_general(a: &Pattern, b: &Atom) -> bool
+    ensures { IsTrue result ↔ IsStrictlyMoreGeneral a.now (pattern.Of b.now) }
+{
+    match a {
+        Pattern::Any => true,
+        Pattern::Of(general) => generalizes(general, b) && !generalizes(b, general),
     }
 }

@@ -5,8 +5,8 @@
 ghost use Rattle.std.specs.Prelude.{◌≡◌};
 ghost use Rattle.me_terms.specs.TermViews.{term_value};
 ghost use Rattle.me_terms.specs.Terms.{arguments_of};
-ghost use Rattle.me_terms.specs.Variables.{is_ground, are_ground, depth, depths, weight, weights, capped};
-ghost use Rattle.me_terms.specs.Measures.{literal_depth, literal_weight};
+ghost use Rattle.me_terms.specs.Variables.{is_ground, are_ground, depth, depths, weight, weights};
+ghost use Rattle.me_terms.specs.Measures.{capped, literal_depth, literal_weight};
 
 use crate::atom::Literal;
 use crate::term::{Term, Terms};

@@ -71,6 +71,13 @@ impl<T> Sequence<T> {
     {
         self.items.get(k as usize)
     }
+
+    /// The items, to be taken out one by one.
+    pub fn into_vec(self) -> Vec<T>
+        ensures { result.items ≡ self.items }
+    {
+        self.items
+    }
 }
 
 impl<T: Drop> Sequence<T> {

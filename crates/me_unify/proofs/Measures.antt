@@ -5,7 +5,8 @@ use Rattle.std.proofs.lemmas.Option.{slice_get_within, slice_get-get_or, get_or_
 use Rattle.std.proofs.lemmas.Bool.{cases_lt, cases_eq}
 use Rattle.me_terms.specs.Terms as tree
 use Rattle.me_terms.specs.Terms.{TermValue, Arguments, Nil, Cons, arguments_of}
-use Rattle.me_terms.specs.Variables.{weight, weights, depth, depths, is_ground, are_ground, capped}
+use Rattle.me_terms.specs.Variables.{weight, weights, depth, depths, is_ground, are_ground}
+use Rattle.me_terms.specs.Measures.{capped}
 use Rattle.me_unify.specs.declared.links.Links.{Links}
 use Rattle.me_unify.specs.declared.node.Node.{Node}
 use Rattle.me_unify.specs.declared.measure.Measure.{Measure}

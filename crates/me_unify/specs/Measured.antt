@@ -3,7 +3,8 @@ use Rattle.std.specs.Prelude.{◌≡◌, ℕ, ◌+◌, ◌<◌, ◌≢◌, List,
 use Rattle.std.specs.declared.alloc.Global.{Global}
 use Rattle.me_terms.specs.Terms as tree
 use Rattle.me_terms.specs.Terms.{TermValue, Arguments, AtomValue}
-use Rattle.me_terms.specs.Variables.{weight, weights, depth, depths, is_ground, are_ground, capped}
+use Rattle.me_terms.specs.Variables.{weight, weights, depth, depths, is_ground, are_ground}
+use Rattle.me_terms.specs.Measures.{capped}
 use Rattle.me_unify.specs.declared.links.Links.{Links}
 use Rattle.me_unify.specs.declared.node.Node.{Node}
 use Rattle.me_unify.specs.declared.node.Node.TheVariants.{Var, App}

@@ -5,7 +5,7 @@ use Rattle.std.proofs.lemmas.Bool.Decides.{nat_tests}
 use Rattle.std.specs.List.{All, AllByRecursion, list_any, list_all}
 use Rattle.std.proofs.lemmas.List.Elements.{All-nil, All-cons}
 use Rattle.me_terms.specs.LabelEquality.{same_symbol}
-use Rattle.me_terms.specs.Labels.{is_printable, IsReadable, IsFunction, IsPredicate}
+use Rattle.me_terms.specs.Labels.{is_printable, IsReadable, IsFunctionSymbol, IsPredicateSymbol}
 use Rattle.me_terms.specs.Signatures.{with_symbol, number_of, takes, is_known_atom}
 use Rattle.me_terms.specs.Validity.{clause_variables, IsValidClause, IsValid}
 use Rattle.me_terms.specs.Variables.{is_numbered_from}
@@ -36,7 +36,7 @@ readable w h = (not_empty w h, all_printable w h.each)
 -- ---- predicates
 
 abbrev IsAtom : SymbolValue → Type 0
-IsAtom s = IsPredicate s × (s.arity ≡ 0)
+IsAtom s = IsPredicateSymbol s × (s.arity ≡ 0)
 
 atom : (w : List ℕ) → IsLowerWord w → IsAtom (word_symbol w)
 atom w h = ((readable w h, refl), refl)
@@ -61,9 +61,9 @@ known_atoms : (known ss : List SymbolValue) → AllByRecursion IsAtom known → 
 known_atoms known [] h k = h
 known_atoms known (s ∷ ss) h k = known_atoms (with_symbol known s) ss (one_atom (list_any (same_symbol s) known) known s h k.0) k.1
 
-predicates_all : (ss : List SymbolValue) → AllByRecursion IsAtom ss → All IsPredicate ss
-predicates_all [] h = All-nil IsPredicate
-predicates_all (s ∷ ss) h = All-cons IsPredicate s ss h.0.0 (predicates_all ss h.1)
+predicates_all : (ss : List SymbolValue) → AllByRecursion IsAtom ss → All IsPredicateSymbol ss
+predicates_all [] h = All-nil IsPredicateSymbol
+predicates_all (s ∷ ss) h = All-cons IsPredicateSymbol s ss h.0.0 (predicates_all ss h.1)
 
 -- ---- literals
 
@@ -137,7 +137,7 @@ valid_clauses signature n (f ∷ fs) h k i few =
     (valid_clause signature n f h (stand_front (literal_predicates f.literals) (file_predicates fs) signature.predicates k) i.0 few.0)
     (valid_clauses signature (n + 1) fs h (stand_back (literal_predicates f.literals) (file_predicates fs) signature.predicates k) i.1 few.1)
 
-c0_function : IsFunction c0_symbol
+c0_function : IsFunctionSymbol c0_symbol
 c0_function = (((λ e. cc), refl), tt)
 
 pub valid : (fs : List Formula) → AllByRecursion IsFormula fs → IsSmall fs → IsValid (problem_of fs)
@@ -148,7 +148,7 @@ valid fs each small =
     record {
       clauses = valid_clauses (record { functions = c0_symbol ∷ []; predicates = ps }) 1 fs atoms (stand [] (file_predicates fs)) each small.each;
       few_clauses = omega (arith, clauses_len ps 1 fs);
-      functions = All-cons IsFunction c0_symbol [] c0_function (All-nil IsFunction);
+      functions = All-cons IsFunctionSymbol c0_symbol [] c0_function (All-nil IsFunctionSymbol);
       predicates = predicates_all ps atoms;
       c0_constant = refl;
     }

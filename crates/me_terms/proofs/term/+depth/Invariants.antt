@@ -1,7 +1,8 @@
 use Rattle.std.proofs.Common.{◌≡◌, ◌≤◌, max, drop, map}
 use Rattle.me_terms.specs.TermViews.{term_value}
 use Rattle.me_terms.specs.Terms.{arguments_of}
-use Rattle.me_terms.specs.Variables.{depths, capped, GREATEST_U64}
+use Rattle.me_terms.specs.Variables.{depths}
+use Rattle.me_terms.specs.Measures.{capped, GREATEST_U64}
 use Rattle.me_terms.proofs.term.+depth.Given as goal
 
 -- The deepest so far and what is left give the whole.

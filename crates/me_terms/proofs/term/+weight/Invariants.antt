@@ -1,7 +1,8 @@
 use Rattle.std.proofs.Common.{◌≡◌, ◌+◌, ◌≤◌, drop, map}
 use Rattle.me_terms.specs.TermViews.{term_value}
 use Rattle.me_terms.specs.Terms.{arguments_of}
-use Rattle.me_terms.specs.Variables.{weights, capped, GREATEST_U64}
+use Rattle.me_terms.specs.Variables.{weights}
+use Rattle.me_terms.specs.Measures.{capped, GREATEST_U64}
 use Rattle.me_terms.proofs.term.+weight.Given as goal
 
 -- What is counted and what is left give the whole.

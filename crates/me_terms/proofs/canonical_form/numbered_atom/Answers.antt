@@ -2,9 +2,9 @@ use Rattle.std.proofs.Common.{◌≡◌, [], subst}
 use Rattle.me_terms.specs.Terms.{AtomValue, arguments_of}
 use Rattle.me_terms.specs.Substitutions.{apply_arguments}
 use Rattle.me_terms.specs.Variables.{variables_of, first_ones, canonical}
-use Rattle.me_match.specs.Names.{by_place}
-use Rattle.me_match.proofs.Numbered.{canonical_args}
-use Rattle.me_match.proofs.canonical_form.numbered_atom.Goals as goal
+use Rattle.me_terms.specs.Names.{by_place}
+use Rattle.me_terms.proofs.Numbered.{canonical_args}
+use Rattle.me_terms.proofs.canonical_form.numbered_atom.Goals as goal
 
 pub returns : goal.returns
 returns c =

@@ -11,7 +11,7 @@ use Rattle.me_laws.proofs.Generality.{arguments_unchanged, generalizes_transitiv
 use Rattle.me_laws.proofs.Grown.{canonical_is}
 use Rattle.me_laws.proofs.NoContradiction.{canonical_below, canonical_above}
 use Rattle.me_laws.proofs.Renaming.{Each, each_map, variables_agree_all, canonical_same}
-use Rattle.me_existence.specs.CanonicalForm.{CanonicalFormIsTheVariant}
+use Rattle.me_laws.specs.CanonicalForm.{CanonicalFormIsTheVariant}
 
 -- ---- the numbers k, k + 1, .. as a list
 abbrev rising : ℕ → ℕ → List ℕ

@@ -1,6 +1,6 @@
 use Rattle.std.proofs.Common.{sym, ◌∙◌}
-use Rattle.me_match.proofs.Numbered.{place_is, placed}
-use Rattle.me_match.proofs.canonical_form.number.Goals as goal
+use Rattle.me_terms.proofs.Numbered.{place_is, placed}
+use Rattle.me_terms.proofs.canonical_form.number.Goals as goal
 
 pub returns-clause-number : goal.returns-clause-number
 returns-clause-number c later =

@@ -8,10 +8,11 @@ ghost use Rattle.me_terms.specs.Terms.{arguments_of};
 ghost use Rattle.me_terms.specs.Substitutions.{apply_term, apply_arguments};
 ghost use Rattle.me_terms.specs.Variables.{term_variables, variables_of, first_ones, place_of, canonical as canonical_atom};
 ghost use Rattle.me_terms.specs.Measures.{canonical_literal};
-ghost use Rattle.me_match.specs.Names.{by_place};
+ghost use Rattle.me_terms.specs.Names.{by_place};
 
+use crate::atom::{Atom, Literal};
+use crate::term::{Term, Terms};
 use indexmap::IndexSet;
-use me_terms::{Atom, Literal, Term, Terms};
 use std::alloc::{AllocError, Global};
 
 /// The variant of a literal whose variables are numbered 0, 1, .. by first occurrence.

@@ -2,8 +2,8 @@ use Rattle.std.proofs.Common.{◌≡◌, ◌+◌, ◌*◌, drop}
 use Rattle.me_terms.specs.Terms.{arguments_of, height, heights}
 use Rattle.me_terms.specs.TermViews.{term_value}
 use Rattle.me_terms.specs.Variables.{variables_of, first_ones}
-use Rattle.me_match.proofs.Numbered.{IsMade}
-use Rattle.me_match.proofs.canonical_form.+numbered.Given as goal
+use Rattle.me_terms.proofs.Numbered.{IsMade}
+use Rattle.me_terms.proofs.canonical_form.+numbered.Given as goal
 
 abbrev pub decreases-numbered : goal.decreases-numbered
 decreases-numbered l = 2 * height (term_value l.term.now)

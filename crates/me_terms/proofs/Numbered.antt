@@ -9,7 +9,7 @@ use Rattle.std.proofs.lemmas.Option.{slice_get_within, get_or_from_slice_get}
 use Rattle.me_terms.specs.Terms.{TermValue, Var, Arguments, Nil, Cons, arguments_of, height, heights}
 use Rattle.me_terms.specs.Substitutions.{Substitution, apply_term, apply_arguments}
 use Rattle.me_terms.specs.Variables.{term_variables, variables_of, first_ones, place_of}
-use Rattle.me_match.specs.Names.{by_place}
+use Rattle.me_terms.specs.Names.{by_place}
 
 -- ---- places
 pub place_is : (x : ℕ) (names : List ℕ) → position_or_len (eqb x) names ≡ place_of x names

@@ -5,7 +5,7 @@ use Rattle.me_terms.specs.Substitutions.{Substitution, apply_term, apply_argumen
 use Rattle.me_terms.specs.Variables.{term_variables, variables_of, is_ground, are_ground}
 use Rattle.me_laws.proofs.Determined.{renamed, unified_variants}
 use Rattle.me_laws.proofs.Renaming.{Each, each_left, each_right, Good, Variants, all_good, depth_same, weight_same}
-use Rattle.me_existence.specs.UnifierMeasures.{UnifiersMeasureAlike}
+use Rattle.me_laws.specs.UnifierMeasures.{UnifiersMeasureAlike}
 
 -- where variables become variables, what is ground is no more and no less
 mutual

@@ -2,15 +2,13 @@
 //!
 //! A `View` is a context of at most 65,535 entries, which can be read. A `Trunk` is one that also grows
 //! and shrinks by an entry at its end. What is visible follows from the entries.
-#![tactic(auto)]
-
 ghost use Rattle.std.specs.Prelude.{◌≡◌, ◌<◌, ◌≤◌, List, length, slice_get, not, ◌↔◌, IsSome, IsTrue, OnOk, OnErr, IfOk, IfErr};
 ghost use Rattle.std.specs.Option.{option_copied};
 ghost use Rattle.me_terms.specs.Context.{IsContext, IsLiteralEntry, IsVisible, add};
 ghost use Rattle.me_terms.specs.Contradictory.{Contradicts};
 ghost use Rattle.me_terms.specs.Values.{EntryValue};
 
-use me_terms::Entry;
+use crate::entry::Entry;
 use std::alloc::{AllocError, Global};
 
 /// A context that can be read.

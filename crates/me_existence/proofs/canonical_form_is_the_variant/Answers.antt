@@ -1,5 +1,0 @@
-use Rattle.me_existence.proofs.CanonicalForm.{canonical_form}
-use Rattle.me_existence.proofs.canonical_form_is_the_variant.Goals as goal
-
-pub returns : goal.returns
-returns c = canonical_form
