@@ -4,7 +4,7 @@ use Rattle.std.specs.List.{flat_map}
 use Rattle.me_terms.specs.Terms.{TermValue, Var, App, Arguments, Nil, Cons, AtomValue}
 use Rattle.me_terms.specs.Values.{SymbolValue, SignatureValue}
 use Rattle.me_terms.specs.declared.atom.Literal.{Literal}
-use Rattle.szs_print.specs.LabelText.{label_text}
+use Rattle.cnf_text.specs.LabelText.{label_text}
 
 -- A symbol's label. What is no symbol of the signature has no text.
 abbrev pub symbol_text : Option SymbolValue → List ℕ

@@ -1,6 +1,6 @@
 use Rattle.std.proofs.Common.{◌≡◌, ◌++◌, drop}
-use Rattle.szs_print.specs.ClauseText.{barred_text, clause_text}
-use Rattle.szs_print.proofs.clause.push_clause.Given as goal
+use Rattle.cnf_text.specs.ClauseText.{barred_text, clause_text}
+use Rattle.cnf_text.proofs.clause.push_clause.Given as goal
 
 -- What is printed and what is left give the whole.
 abbrev pub invariant-loop-literal : goal.invariant-loop-literal

@@ -1,8 +1,8 @@
 use Rattle.std.proofs.Common.{◌≡◌, ◌+◌, ◌*◌, ◌≤◌, ◌++◌, drop, map, codes}
 use Rattle.me_terms.specs.TermViews.{term_value}
 use Rattle.me_terms.specs.Terms.{arguments_of, height, heights}
-use Rattle.szs_print.specs.ClauseText.{arguments_text, others_text}
-use Rattle.szs_print.proofs.term.+push.Given as goal
+use Rattle.cnf_text.specs.ClauseText.{arguments_text, others_text}
+use Rattle.cnf_text.proofs.term.+push.Given as goal
 
 abbrev pub decreases-push_arguments : goal.decreases-push_arguments
 decreases-push_arguments l = 2 * heights (arguments_of l.args.now.items) + 1

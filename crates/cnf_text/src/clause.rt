@@ -2,14 +2,14 @@
 //!
 //! The literals of a clause are joined by bars, and the empty clause is `$false`.
 ghost use Rattle.std.specs.Prelude.{◌≡◌, ◌++◌, codes, if◌then◌else◌, [], OnOk};
-ghost use Rattle.szs_print.specs.ClauseText.{literal_text, clause_text, atom_text};
+ghost use Rattle.cnf_text.specs.ClauseText.{literal_text, clause_text, atom_text};
 
 use crate::term::push_atom;
 use me_terms::{Atom, Literal, Signature};
 use std::alloc::AllocError;
 
 /// Puts the atom at the end, behind `~` where it is negated.
-pub(crate) fn push_signed(
+pub fn push_signed(
     out: &mut Vec<u8>,
     signature: &Signature,
     positive: bool,
@@ -24,7 +24,7 @@ pub(crate) fn push_signed(
 }
 
 /// Puts the clause of these literals at the end.
-pub(crate) fn push_clause(
+pub fn push_clause(
     out: &mut Vec<u8>,
     signature: &Signature,
     literals: &[Literal],

@@ -4,7 +4,7 @@
 ghost use Rattle.std.specs.Prelude.{◌≡◌, ◌++◌, OnOk};
 ghost use Rattle.me_terms.specs.TermViews.{term_value};
 ghost use Rattle.me_terms.specs.Terms.{arguments_of};
-ghost use Rattle.szs_print.specs.ClauseText.{term_text, arguments_text, atom_text};
+ghost use Rattle.cnf_text.specs.ClauseText.{term_text, arguments_text, atom_text};
 
 use crate::label::{push_label, push_number};
 use me_terms::{Atom, Signature, Term, Terms};
@@ -47,11 +47,7 @@ fn push_arguments(out: &mut Vec<u8>, signature: &Signature, args: &Terms) -> Res
 }
 
 /// Puts the atom at the end.
-pub(crate) fn push_atom(
-    out: &mut Vec<u8>,
-    signature: &Signature,
-    atom: &Atom,
-) -> Result<(), AllocError>
+pub fn push_atom(out: &mut Vec<u8>, signature: &Signature, atom: &Atom) -> Result<(), AllocError>
     ensures { OnOk result (out.new.items ≡ out.old.items ++ atom_text signature.now atom.now) }
 {
     if let Some(symbol) = signature.pred(atom.pred) {

@@ -3,14 +3,14 @@
 //! A label is printed so that it reads as itself: bare where that is possible, else in quotes.
 ghost use Rattle.std.specs.Prelude.{◌≡◌, ◌++◌, decimal, OnOk};
 ghost use Rattle.std.specs.List.{list_all};
-ghost use Rattle.szs_print.specs.LabelText.{is_word_byte, is_lower_word, quoted, label_text};
+ghost use Rattle.cnf_text.specs.LabelText.{is_word_byte, is_lower_word, quoted, label_text};
 
 use itoa::Buffer;
 use me_terms::{Form, Label};
 use std::alloc::AllocError;
 
 /// Puts the number at the end, in decimal.
-pub(crate) fn push_number(out: &mut Vec<u8>, n: u64) -> Result<(), AllocError>
+pub fn push_number(out: &mut Vec<u8>, n: u64) -> Result<(), AllocError>
     ensures { OnOk result (out.new.items ≡ out.old.items ++ decimal n) }
 {
     let mut buffer = Buffer::new();
@@ -56,7 +56,7 @@ fn push_quoted(out: &mut Vec<u8>, quote: u8, text: &[u8]) -> Result<(), AllocErr
 }
 
 /// Puts the label at the end.
-pub(crate) fn push_label(out: &mut Vec<u8>, label: &Label) -> Result<(), AllocError>
+pub fn push_label(out: &mut Vec<u8>, label: &Label) -> Result<(), AllocError>
     ensures { OnOk result (out.new.items ≡ out.old.items ++ label_text label.now) }
 {
     let text = label.text.as_slice();

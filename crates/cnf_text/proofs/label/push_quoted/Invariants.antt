@@ -1,7 +1,7 @@
 use Rattle.std.proofs.Common.{◌≡◌, ◌∷◌, ◌++◌, drop}
 use Rattle.std.specs.List.{flat_map}
-use Rattle.szs_print.specs.LabelText.{escaped}
-use Rattle.szs_print.proofs.label.push_quoted.Given as goal
+use Rattle.cnf_text.specs.LabelText.{escaped}
+use Rattle.cnf_text.proofs.label.push_quoted.Given as goal
 
 -- What is printed and what is left give the whole.
 abbrev pub invariant-loop-byte : goal.invariant-loop-byte
