@@ -7,7 +7,9 @@ pub mod MoreNodes
 pub mod MostGeneral
 pub mod Posed
 pub mod Ranked
+pub mod Names
 pub mod Read
+pub mod ReadOff
 pub mod Solved
 pub mod Steps
 pub mod Visit

@@ -1,4 +1,5 @@
 pub mod Equations
+pub mod Left
 pub mod Linked
 pub mod Marks
 pub mod Measured

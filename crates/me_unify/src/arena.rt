@@ -65,14 +65,10 @@ impl Arena {
         ensures froms { self.new.links.froms.items ≡ self.old.links.froms.items }
         ensures tos { self.new.links.tos.items ≡ self.old.links.tos.items }
     {
-        for x in 0..self.nodes.len() {
-            if let Node::Var { space: i, var: v } = &self.nodes[x] {
-                if *i == space && *v == var {
-                    return Ok(x as u32);
-                }
-            }
+        match self.node_of(space, var) {
+            Some(x) => Ok(x),
+            None => self.push(Node::Var { space, var }),
         }
-        self.push(Node::Var { space, var })
     }
 
     /// The two nodes become equal, or the links stay and nothing makes them equal.

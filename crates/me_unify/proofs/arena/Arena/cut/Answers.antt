@@ -1,6 +1,4 @@
 use Rattle.me_unify.specs.Marks.{IsCut}
-use Rattle.std.proofs.Common.{sym}
-use Rattle.me_unify.proofs.MoreNodes.{same_links}
 use Rattle.me_unify.proofs.Cut.{arena_cut, cut_by}
 use Rattle.me_unify.proofs.arena.Arena.cut.Goals as goal
 

@@ -1,4 +1,4 @@
-use Rattle.std.proofs.Common.{◌≡◌, ℕ, ◌<◌, get_or, length, sym}
+use Rattle.std.proofs.Common.{ℕ, ◌<◌, get_or, length, sym}
 use Rattle.me_unify.specs.Measured.{IsHeld}
 use Rattle.me_unify.proofs.MoreNodes.{same_links}
 use Rattle.me_unify.proofs.Forest.{respects_less}

@@ -1,8 +1,6 @@
-use Rattle.std.proofs.Common.{◌≡◌, sym, ◌∙◌}
-use Rattle.me_unify.proofs.MoreNodes.{same_links}
+use Rattle.std.proofs.Common.{◌≡◌, ◌∙◌}
 use Rattle.me_unify.proofs.Made.{fits_less, grown_twice, grown_within}
 use Rattle.me_unify.proofs.Posed.{posed, apart_by}
-use Rattle.me_unify.proofs.Steps.{longer_twice}
 use Rattle.me_unify.proofs.arena.Arena.try_pose.Goals as goal
 
 pub equate-requires-clause-left : goal.equate-requires-clause-left
