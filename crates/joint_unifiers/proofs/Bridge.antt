@@ -24,7 +24,7 @@ pub solves_later : (u : Family) (es fs : List Equation) → SolvesAll u (es ++ f
 solves_later u [] fs h = h
 solves_later u (e ∷ es) fs h = solves_later u es fs (λ k d lt. h (suc k) d (omega arith))
 
-solves_one : (u : Family) (e : Equation) → SolvesOne u e → SolvesAll u (e ∷ [])
+pub solves_one : (u : Family) (e : Equation) → SolvesOne u e → SolvesAll u (e ∷ [])
 solves_one u e h zero d lt = h
 solves_one u e h (suc k) d lt = absurd (omega arith)
 

@@ -7,8 +7,11 @@ ghost use Rattle.me_terms.specs.Positions.{positions_of, AreOpposite};
 ghost use Rattle.me_terms.specs.Unifier.{IsContextUnifier};
 ghost use Rattle.joint_unifiers.specs.ClauseUnifiers.{IsUnifierOf, IsSkip};
 
+use crate::equations::add_places;
+use crate::remainder::remaining;
 use crate::unifier::Unifier;
 use me_terms::{Clause, Tuple, View};
+use me_unify::Bindings;
 use std::alloc::{AllocError, Global};
 
 /// The most general unifier of a clause's literals, but for the one at `skip`, and the entries at the
@@ -28,5 +31,12 @@ pub fn joint_unifier<V: View>(
     ensures exact { IfOk result (λ r. IsSome r ↔ ((f : Family) × IsContextUnifier (V.context view.now) clause.now.literals skip tuple.now.items f)) }
     ensures unifier { IfOk result (λ r. IfSome r (λ u. IsUnifierOf (V.context view.now) clause.now.literals skip tuple.now.items u)) }
 {
-    Err(AllocError)
+    let literals = &clause.literals;
+    let mut bindings = Bindings::new(alloc);
+    if !add_places(&mut bindings, view, literals.as_slice(), skip, tuple)? {
+        return Ok(None);
+    }
+    let count = literals.len() as u32;
+    let remainder = remaining(alloc, &bindings, view, skip, tuple, count)?;
+    Ok(Some(Unifier::new(alloc, literals, tuple, bindings, remainder)?))
 }

@@ -5,7 +5,9 @@
 #![tactic(auto)]
 
 mod contradiction;
+mod equations;
 mod joint;
+mod remainder;
 mod unifier;
 
 pub use contradiction::is_contradictory;
