@@ -6,9 +6,6 @@ use Rattle.me_terms.proofs.Numbered.{height_in}
 use Rattle.joint_unifiers.proofs.Remaining.{any_here, any_later, any_none}
 use Rattle.joint_unifiers.proofs.remainder.+binds.Goals as goal
 
-pub binds_in-is_variable-requires : goal.binds_in-is_variable-requires
-binds_in-is_variable-requires t c = ?
-
 pub binds_in-returns-in-App : goal.binds_in-returns-in-App
 binds_in-returns-in-App t c u general = rw c.in-App.is (c.binds_among.ensures u general)
 
