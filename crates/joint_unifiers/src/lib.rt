@@ -12,4 +12,5 @@ mod unifier;
 
 pub use contradiction::is_contradictory;
 pub use joint::joint_unifier;
+pub use remainder::is_restricted;
 pub use unifier::Unifier;

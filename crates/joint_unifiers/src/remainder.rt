@@ -45,7 +45,7 @@ fn binds_among(bindings: &Bindings, space: u32, terms: &Terms) -> bool
 }
 
 /// Whether an entry with the variables of that space is used for less than all that it stands for.
-fn is_restricted(bindings: &Bindings, space: u32, entry: &Entry) -> bool
+pub fn is_restricted(bindings: &Bindings, space: u32, entry: &Entry) -> bool
     ensures { (u : Family) → IsMostGeneral bindings.now u → result ≡ is_remaining entry.now.kind entry.now.atom (u space) }
 {
     match &entry.atom {
