@@ -1,0 +1,5 @@
+pub mod ClauseEquations
+pub mod ClauseUnifiers
+pub mod Contradiction
+pub mod Measured
+pub mod Places
