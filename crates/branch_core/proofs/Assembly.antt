@@ -22,7 +22,7 @@ use Rattle.branch_core.specs.Pieces as piece
 use Rattle.branch_core.specs.Whole.{IsIn, AreWhole}
 use Rattle.branch_core.specs.Filled.{IsNoGift, Filled, none_left, own, put, LacksMemory, no_memory, after_closed, after_bounded, CutsFollowSat}
 use Rattle.branch_core.specs.Total.{Total, AllClosed, HasBound, HasSat, Lost, total_with, total_of, Decides}
-use Rattle.branch_core.proofs.FirstOccurrences.{first-again}
+use Rattle.instance_lists.proofs.FirstOccurrences.{first-again}
 use Rattle.branch_core.proofs.Values.{Value, none_yet, plus, value_of, sum_of, PieceOnce, PiecesOnce, sum-append, once-append, weighed, total_weighed}
 use Rattle.branch_core.proofs.Agreement.{Agrees, GiftValue, PieceValue, Sums, sums_once, joined_sums, replaced_once, replaced_agrees}
 

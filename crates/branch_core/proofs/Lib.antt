@@ -4,7 +4,6 @@ pub mod CanAssemble
 pub mod CoreTables
 pub mod CutsFollow
 pub mod Filling
-pub mod FirstOccurrences
 pub mod Orderly
 pub mod PathOrder
 pub mod Trees

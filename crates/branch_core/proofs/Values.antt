@@ -12,7 +12,7 @@ use Rattle.branch_core.specs.Pieces.{Piece}
 use Rattle.branch_core.specs.StandsFor.{part_of}
 use Rattle.branch_core.specs.Pieces as piece
 use Rattle.branch_core.specs.Total.{Total, AllClosed, HasBound, HasSat, Lost, total_with, part_total, total_of, listed_joined}
-use Rattle.branch_core.proofs.FirstOccurrences.{first-again, joined-assoc, weight-left, weight-right}
+use Rattle.instance_lists.proofs.FirstOccurrences.{first-again, joined-assoc, weight-left, weight-right}
 
 -- An outcome, or none where leaves that count are not known.
 abbrev pub Value : Type 0

@@ -1,41 +1,12 @@
 -- First occurrences: they commute with a filter, joining is associative, and no list is lighter for being joined.
-use Rattle.std.proofs.Common.{◌≡◌, ℕ, ◌+◌, ◌≤◌, Bool, true, false, not, ◌&&◌, eqb, ◌⊎◌, inl, inr, List, [], ◌∷◌, ◌++◌, append_assoc, refl, sym, subst, ap, ◌∙◌, arith}
+use Rattle.std.proofs.Common.{◌≡◌, ℕ, ◌+◌, ◌≤◌, Bool, true, false, not, ◌&&◌, ◌⊎◌, inl, inr, List, [], ◌∷◌, ◌++◌, append_assoc, refl, sym, subst, ap, ◌∙◌, arith}
 use Rattle.std.specs.List.{filter}
-use Rattle.std.specs.Cmp.Lexicographic.{pointwise}
-use Rattle.std.proofs.lemmas.Bool.{eqb-true}
 use Rattle.std.proofs.lemmas.List.Elements.{filter-append}
 use Rattle.std.proofs.lemmas.List.Sums.{sum_by-cons, sum_by-append}
-use Rattle.me_terms.specs.TermEquality.{same_atom}
-use Rattle.me_terms.specs.TermEqualityLaws.{both_parts, same_atom_sound}
 use Rattle.me_terms.specs.Measures.{literals_weight, list_weight}
 use Rattle.me_terms.specs.Values.{InstanceValue}
-use Rattle.me_terms.specs.FirstOccurrences.{same_sign_as, same_literal, same_instance, first_occurrences, joined}
-use Rattle.me_terms.specs.declared.atom.Literal.{Literal}
-
--- ---- the test of equality
-sign_sound : (a b : Bool) → same_sign_as a b ≡ true → a ≡ b
-sign_sound true true h = refl
-sign_sound true false h = cc
-sign_sound false true h = cc
-sign_sound false false h = refl
-
-literal_sound : (l m : Literal) → same_literal l m ≡ true → l ≡ m
-literal_sound l m h =
-    let parts = both_parts (same_sign_as l.positive m.positive) (same_atom l.atom m.atom) h in
-    λ i. record { positive = sign_sound l.positive m.positive parts.0 i; atom = same_atom_sound l.atom m.atom parts.1 i }
-
-literals_sound : (ls ms : List Literal) → pointwise same_literal ls ms ≡ true → ls ≡ ms
-literals_sound [] [] h = refl
-literals_sound [] (m ∷ ms) h = cc
-literals_sound (l ∷ ls) [] h = cc
-literals_sound (l ∷ ls) (m ∷ ms) h =
-    let parts = both_parts (same_literal l m) (pointwise same_literal ls ms) h in
-    λ i. literal_sound l m parts.0 i ∷ literals_sound ls ms parts.1 i
-
-pub instance_sound : (i j : InstanceValue) → same_instance i j ≡ true → i ≡ j
-instance_sound i j h =
-    let parts = both_parts (eqb i.clause j.clause) (pointwise same_literal i.literals j.literals) h in
-    λ n. record { clause = eqb-true i.clause j.clause parts.0 n; literals = literals_sound i.literals j.literals parts.1 n }
+use Rattle.me_terms.specs.FirstOccurrences.{same_instance, first_occurrences, joined}
+use Rattle.instance_lists.specs.InstanceLaws.{instance_sound}
 
 -- ---- filters
 bool_cases : (b : Bool) → (b ≡ true) ⊎ (b ≡ false)

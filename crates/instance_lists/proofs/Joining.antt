@@ -1,0 +1,55 @@
+-- The first occurrences of two lists are those of the first one, and then the new instances of the second one.
+use Rattle.std.proofs.Common.{◌≡◌, ◌+◌, Bool, true, false, List, [], ◌∷◌, ◌++◌, ◌⊎◌, inl, inr, refl, ap, ◌∙◌}
+use Rattle.std.specs.List.{filter}
+use Rattle.std.proofs.lemmas.List.Sums.{sum_by-append}
+use Rattle.me_terms.specs.Values.{InstanceValue}
+use Rattle.me_terms.specs.Measures.{literals_weight, list_weight}
+use Rattle.me_terms.specs.FirstOccurrences.{same_instance, first_occurrences, joined}
+use Rattle.instance_lists.specs.InstanceLaws.{instance_laws}
+use Rattle.instance_lists.specs.News.{stands_in, news, marked}
+use Rattle.instance_lists.proofs.FirstOccurrences.{others}
+
+bool_cases : (b : Bool) → (b ≡ true) ⊎ (b ≡ false)
+bool_cases true = inl refl
+bool_cases false = inr refl
+
+-- what is new beside a list with one instance more before it is what is new beside the list, without that instance
+one_before : (x : InstanceValue) (list more : List InstanceValue) → filter (others x) (marked (news list more) more) ≡ marked (news (x ∷ list) more) more
+one_before x list [] = refl
+one_before x list (i ∷ more) =
+    let turn : same_instance x i ≡ same_instance i x = instance_laws.symm x i in
+    let later : filter (others x) (marked (news (list ++ i ∷ []) more) more) ≡ marked (news (x ∷ (list ++ i ∷ [])) more) more = one_before x (list ++ i ∷ []) more in
+    elim (bool_cases (stands_in list i)) as (λ _. filter (others x) (marked (news list (i ∷ more)) (i ∷ more)) ≡ marked (news (x ∷ list) (i ∷ more)) (i ∷ more)) [
+      | inl known ↦ elim (bool_cases (same_instance i x)) as (λ _. filter (others x) (marked (news list (i ∷ more)) (i ∷ more)) ≡ marked (news (x ∷ list) (i ∷ more)) (i ∷ more)) [
+        | inl e ↦ simp (known, e) later
+        | inr e ↦ simp (known, e) later
+      ]
+      | inr fresh ↦ elim (bool_cases (same_instance i x)) as (λ _. filter (others x) (marked (news list (i ∷ more)) (i ∷ more)) ≡ marked (news (x ∷ list) (i ∷ more)) (i ∷ more)) [
+        | inl e ↦ simp (fresh, e, turn) later
+        | inr e ↦ simp (fresh, e, turn) (λ n. i ∷ later n)
+      ]
+    ]
+
+none_before : (more : List InstanceValue) → first_occurrences more ≡ marked (news [] more) more
+none_before [] = refl
+none_before (i ∷ more) = λ n. i ∷ (ap (filter (others i)) (none_before more) ∙ one_before i [] more) n
+
+append_filter : {A : Type 0} (p : A → Bool) (xs ys : List A) → filter p (xs ++ ys) ≡ filter p xs ++ filter p ys
+append_filter p [] ys = refl
+append_filter p (x ∷ xs) ys =
+    elim (bool_cases (p x)) as (λ _. filter p ((x ∷ xs) ++ ys) ≡ filter p (x ∷ xs) ++ filter p ys) [
+      | inl e ↦ simp e (λ i. x ∷ append_filter p xs ys i)
+      | inr e ↦ simp e (append_filter p xs ys)
+    ]
+
+pub first_and_new : (list more : List InstanceValue) → first_occurrences (list ++ more) ≡ first_occurrences list ++ marked (news list more) more
+first_and_new [] more = none_before more
+first_and_new (x ∷ list) more =
+    λ n. x ∷ (ap (filter (others x)) (first_and_new list more) ∙ (append_filter (others x) (first_occurrences list) (marked (news list more) more) ∙ ap (λ (ys : List InstanceValue). filter (others x) (first_occurrences list) ++ ys) (one_before x list more))) n
+
+-- a list in which each instance stands once, joined with another one
+pub joined_new : (list more : List InstanceValue) → first_occurrences list ≡ list → joined list more ≡ list ++ marked (news list more) more
+joined_new list more once = first_and_new list more ∙ ap (λ (xs : List InstanceValue). xs ++ marked (news list more) more) once
+
+pub weight-append : (xs ys : List InstanceValue) → list_weight (xs ++ ys) ≡ list_weight xs + list_weight ys
+weight-append xs ys = sum_by-append (λ (i : InstanceValue). literals_weight i.literals) xs ys

@@ -1,0 +1,3 @@
+pub mod FirstOccurrences
+pub mod Joining
+pub mod Known
