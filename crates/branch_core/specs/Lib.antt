@@ -3,6 +3,7 @@ pub mod Core
 pub mod CoreTable
 pub mod EventViews
 pub mod Filled
+pub mod Gathered
 pub mod Hooks
 pub mod Joined
 pub mod PartViews
