@@ -10,6 +10,7 @@ pub mod LeftParts
 pub mod OneFilling
 pub mod Orderly
 pub mod PathOrder
+pub mod RecordPlaces
 pub mod SettledParts
 pub mod Trees
 pub mod Values

@@ -21,7 +21,7 @@ fill-requires t c =
     let long = longer _ c.in-Some.record.now.path known.1 in
     let same : length c.in-Some.record.now.path ≡ length c.args.path = ap length c.in-Some.ensures.1 in
     let few = length_turns c.path.inside.len c.path.inside.bits in
-    (omega (arith, c.decreases, long, same, few, c.if-prove.false), (c.requires.whole, known.0))
+    (omega (arith, c.decreases, long, same, few, c.if-prove.false), (c.requires.whole, (c.requires.index, known.0)))
 
 pub loop-part-preserved : goal.loop-part-preserved
 loop-part-preserved t c = λ rest fills.

@@ -14,6 +14,7 @@ use Rattle.branch_core.specs.declared.part.Part.{Part}
 use Rattle.branch_core.specs.Total.{Total, Decides, total_of}
 use Rattle.branch_core.proofs.Assembly.{answer_from, lacking_loses}
 use Rattle.branch_core.proofs.CutsFollow.{whole_cuts_follow}
+use Rattle.branch_core.proofs.Orderly.{closed_runs, orderly_right}
 use Rattle.branch_core.proofs.OneFilling.{same_parts}
 use Rattle.branch_core.proofs.SettledParts.{decides_once}
 use Rattle.branch_core.proofs.assembling.assemble.Goals as goal
@@ -48,7 +49,7 @@ returns-clause-answers c =
     let n = c.args.list_bound in
     let filled = c.in_ok-fill.ensures.0 in
     let records = c.args.records.now.items in
-    let are = root_parts records _ _ filled c.as_slice.ensures c.root.ensures c.in_ok-fill.ensures.1 in
+    let are = root_parts records _ _ filled c.as_slice-records.ensures c.root.ensures c.in_ok-fill.ensures.1 in
     let decides = decided n filled c.new-parts.result.items c.fill.new.parts.items c.deref.result.now c.answer_of.result c.new-parts.ensures.items c.in_ok-fill.ensures.2 c.deref.ensures.value c.answer_of.ensures in
     IfOk-weaker c.answer_of.result (λ answer. Decides (total_of n filled) (answer_value answer)) (λ answer. AnswersWhole records n (answer_value answer)) (λ answer d. answers_whole records n filled (answer_value answer) are d) decides
 
@@ -57,6 +58,24 @@ returns-clause-lacking c =
     let n = c.args.list_bound in
     let filled = c.in_ok-fill.ensures.0 in
     let records = c.args.records.now.items in
-    let are = root_parts records _ _ filled c.as_slice.ensures c.root.ensures c.in_ok-fill.ensures.1 in
+    let are = root_parts records _ _ filled c.as_slice-records.ensures c.root.ensures c.in_ok-fill.ensures.1 in
     let decides = decided n filled c.new-parts.result.items c.fill.new.parts.items c.deref.result.now c.answer_of.result c.new-parts.ensures.items c.in_ok-fill.ensures.2 c.deref.ensures.value c.answer_of.ensures in
     lacks_none records n filled c.answer_of.result c.requires.whole are decides
+
+pub returns-clause-kept : goal.returns-clause-kept
+returns-clause-kept c = closed_runs
+
+pub returns-clause-spared : goal.returns-clause-spared
+returns-clause-spared c = orderly_right
+
+pub returns-in_err-places-clause-kept : goal.returns-in_err-places-clause-kept
+returns-in_err-places-clause-kept c = closed_runs
+
+pub returns-in_err-places-clause-spared : goal.returns-in_err-places-clause-spared
+returns-in_err-places-clause-spared c = orderly_right
+
+pub returns-in_err-fill-clause-kept : goal.returns-in_err-fill-clause-kept
+returns-in_err-fill-clause-kept c = closed_runs
+
+pub returns-in_err-fill-clause-spared : goal.returns-in_err-fill-clause-spared
+returns-in_err-fill-clause-spared c = orderly_right
