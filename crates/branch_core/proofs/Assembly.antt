@@ -63,7 +63,7 @@ record Filling (whole : SearchTree) (list_bound : ℕ) (ps : List Piece) (filled
   once : PiecesOnce flat
   sum : sum_of flat ≡ value
 
-map_append : {A B : Type 0} (f : A → B) (xs ys : List A) → map f (xs ++ ys) ≡ map f xs ++ map f ys
+pub map_append : {A B : Type 0} (f : A → B) (xs ys : List A) → map f (xs ++ ys) ≡ map f xs ++ map f ys
 map_append f [] ys = refl
 map_append f (x ∷ xs) ys = λ i. f x ∷ map_append f xs ys i
 

@@ -4,8 +4,14 @@ pub mod CanAssemble
 pub mod CoreTables
 pub mod CutsFollow
 pub mod Filling
+pub mod FillingIn
+pub mod GatheredLists
+pub mod LeftParts
+pub mod OneFilling
 pub mod Orderly
 pub mod PathOrder
+pub mod RecordPlaces
+pub mod SettledParts
 pub mod Trees
 pub mod Values
 pub mod WholeExample

@@ -25,3 +25,11 @@ AnswersWhole records list_bound reply =
 abbrev pub RecordsLackMemory : List RecordValue → Type 0
 RecordsLackMemory records =
     (root : RecordValue) × (filled : List PartValue) × IsIn root records × (root.path ≡ []) × Filled records root.parts filled × LacksMemory filled
+
+-- The record of this path is one of them.
+abbrev pub HasRecord : List RecordValue → Turns → Type 0
+HasRecord records path = (record' : RecordValue) × IsIn record' records × (record'.path ≡ path)
+
+-- They are the parts of the record of this path, with the gifts filled in.
+abbrev pub ArePartsOf : List RecordValue → Turns → List PartValue → Type 0
+ArePartsOf records path filled = (record' : RecordValue) × IsIn record' records × (record'.path ≡ path) × Filled records record'.parts filled

@@ -7,12 +7,14 @@ use Rattle.branch_core.specs.Parts.{PartValue, RecordValue}
 abbrev pub Actor : Type 0
 Actor = ℕ
 
+-- The state of a path: nobody has spoken of it; it was given away; an actor has it; or its parts were handed back.
 pub data StateValue : Type 0 where
   Unknown : StateValue
   Offered : StateValue
   Held : Actor → StateValue
   Ended : StateValue
 
+-- What an actor does. Offer: it gives a path away, below a path that it holds. Take: it takes one. Post: it tells the key of an exhausted leaf. Cut: it leaves a node out for that of the least key. End: it hands back the parts of a path.
 pub data EventValue : Type 0 where
   Offer : Actor → Turns → Turns → EventValue
   Take : Actor → Turns → EventValue
@@ -20,6 +22,7 @@ pub data EventValue : Type 0 where
   Cut : Actor → Turns → ℕ → EventValue
   End : Actor → Turns → List PartValue → EventValue
 
+-- How many turns a path that is given away may have, the state of each path, the least key that was posted, and the records that were handed back.
 pub record CoreValue : Type 0 where
   pub share : ℕ
   pub states : Turns → StateValue
@@ -33,6 +36,7 @@ bool_eq true false = false
 bool_eq false true = false
 bool_eq false false = true
 
+-- The same turns in the same order.
 abbrev pub turns_eq : Turns → Turns → Bool
 turns_eq [] [] = true
 turns_eq [] (b ∷ bs) = false
@@ -49,6 +53,7 @@ abbrev pub first_states : Turns → StateValue
 first_states [] = Offered
 first_states (turn ∷ turns) = Unknown
 
+-- The core before any event.
 abbrev pub first_core : ℕ → CoreValue
 first_core share = record { share = share; states = first_states; least = None; kept = [] }
 
@@ -64,6 +69,7 @@ pub record MayOffer (core : CoreValue) (by : Actor) (parent path : Turns) : Type
   pub short : length path ≤ core.share
   pub unknown : core.states path ≡ Unknown
 
+-- The event may come. An Offer as above; a Take where the path is Offered; a Post always; a Cut where the least key is the one named and smaller than the node's; an End where the actor holds the path.
 abbrev pub IsLegal : CoreValue → EventValue → Type 0
 IsLegal core (Offer by parent path) = MayOffer core by parent path
 IsLegal core (Take by path) = core.states path ≡ Offered
@@ -71,6 +77,7 @@ IsLegal core (Post by posted) = Unit {0}
 IsLegal core (Cut by node least) = (core.least ≡ Some least) × (least < key node)
 IsLegal core (End by path parts) = core.states path ≡ Held by
 
+-- The least key, once one more was posted.
 abbrev pub least_with : Option ℕ → ℕ → ℕ
 least_with None posted = posted
 least_with (Some least) posted = min least posted

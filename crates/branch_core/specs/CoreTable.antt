@@ -16,9 +16,11 @@ abbrev pub found : Option StateValue → StateValue
 found (Some state) = state
 found None = Unknown
 
+-- The state at the place of the path's code.
 abbrev pub state_at : List StateValue → Turns → StateValue
 state_at states turns = found (slice_get states (code turns))
 
+-- The core that the table stands for.
 abbrev pub core_value : CoreTable → CoreValue
 core_value table = record { share = table.share; states = state_at table.states; least = table.least; kept = table.kept }
 

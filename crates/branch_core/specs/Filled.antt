@@ -4,6 +4,7 @@ use Rattle.me_terms.specs.declared.bounds.Bound.{Bound}
 use Rattle.branch_core.specs.Parts.{ListedValue, PartValue, Closed, Bounded, Sat, Gift, Cut, NoMemory, RecordValue}
 use Rattle.branch_core.specs.Whole.{IsIn}
 
+-- The part stands for leaves, and not for a subtree that was given away.
 abbrev pub IsNoGift : PartValue → Type 0
 IsNoGift (Closed list) = Unit {0}
 IsNoGift (Bounded b) = Unit {0}

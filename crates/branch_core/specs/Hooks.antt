@@ -1,5 +1,5 @@
 -- What an answer to a gift says.
-use Rattle.std.specs.Prelude.{◌≡◌, ℕ, List, [], ◌∷◌, ◌++◌, ◌↔◌}
+use Rattle.std.specs.Prelude.{◌≡◌, List, [], ◌∷◌, ◌++◌, ◌↔◌}
 use Rattle.branch_core.specs.Paths.{Turns}
 use Rattle.branch_core.specs.declared.hook.Give.{Give}
 use Rattle.branch_core.specs.declared.hook.Give.TheVariants.{Away, NoRoom, NotNew}

@@ -3,6 +3,7 @@ pub mod Core
 pub mod CoreTable
 pub mod EventViews
 pub mod Filled
+pub mod Gathered
 pub mod Hooks
 pub mod Joined
 pub mod PartViews
@@ -11,6 +12,7 @@ pub mod PathLaws
 pub mod PathOrder
 pub mod Paths
 pub mod Pieces
+pub mod RecordIndex
 pub mod RecordLaws
 pub mod Replaced
 pub mod RunLaws

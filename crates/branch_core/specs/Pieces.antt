@@ -22,8 +22,10 @@ leaf_piece turns (outcome.Closed list) = Closed list
 leaf_piece turns (outcome.Sat context) = Sat turns context
 leaf_piece turns (outcome.Met b) = Bounded b
 
+-- The turns to the left child.
 abbrev pub go_left : Turns → Turns
 go_left turns = turns ++ false ∷ []
 
+-- The turns to the right child.
 abbrev pub go_right : Turns → Turns
 go_right turns = turns ++ true ∷ []

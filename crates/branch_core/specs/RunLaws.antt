@@ -17,5 +17,6 @@ pub record OrderlyRunsSpare (list_bound share : ℕ) (search : SearchTree) (core
   pub taken_once : (path : Turns) (j k : ℕ) → slice_get log.taken j ≡ Some path → slice_get log.taken k ≡ Some path → j ≡ k
   pub first_spared : (account : Account) → IsIn account log.accounts → StandsFor (SparesFirst search) search account
 
+-- So it is in every orderly run.
 abbrev pub OrderlyRunsAreRight : Type 0
 OrderlyRunsAreRight = (list_bound share : ℕ) (search : SearchTree) (core : CoreValue) (log : Log) → IsOrderly list_bound share search core log → OrderlyRunsSpare list_bound share search core log

@@ -59,6 +59,7 @@ pub record Log : Type 0 where
   pub postings : List Posting
   pub accounts : List Account
 
+-- The log before any event.
 abbrev pub no_log : Log
 no_log = record { taken = []; offerings = []; postings = []; accounts = [] }
 

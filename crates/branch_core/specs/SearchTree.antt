@@ -13,6 +13,7 @@ use Rattle.me_terms.specs.declared.entry.Kind.{Kind}
 use Rattle.me_terms.specs.declared.atom.Literal.{Literal}
 use Rattle.branch_core.specs.Paths.{Turns}
 
+-- A tree has an outcome at each leaf, and at each node a left and a right child.
 pub data SearchTree : Type 0 where
   Leaf : TreeOutcome → SearchTree
   Node : SearchTree → SearchTree → SearchTree
@@ -41,6 +42,7 @@ subtree (Node left right) (true ∷ turns) = subtree right turns
 abbrev pub EachOnce : List InstanceValue → Type 0
 EachOnce list = first_occurrences list ≡ list
 
+-- The list of a closed outcome has each of its instances once.
 abbrev pub ListsOnce : TreeOutcome → Type 0
 ListsOnce (Closed list) = EachOnce list
 ListsOnce (Sat context) = Unit {0}

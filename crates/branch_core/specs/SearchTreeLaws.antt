@@ -12,5 +12,6 @@ pub record SearchIsTree (problem : ProblemValue) (bounds : Bounds) (context : Co
   pub has_search : (outcome : TreeOutcome) → HasOutcome problem bounds context outcome → (search : SearchTree) × IsSearchTree problem bounds context search × (outcome ≡ outcome_of search)
   pub determined : (search other : SearchTree) → IsSearchTree problem bounds context search → IsSearchTree problem bounds context other → search ≡ other
 
+-- So it is of every context of every problem within all bounds.
 abbrev pub SearchesAreTrees : Type 0
 SearchesAreTrees = (problem : ProblemValue) (bounds : Bounds) (context : Context) → SearchIsTree problem bounds context

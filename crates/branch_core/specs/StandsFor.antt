@@ -22,6 +22,7 @@ pub record Account : Type 0 where
   pub path : Turns
   pub pieces : List Piece
 
+-- The record of an account: each piece becomes its part.
 abbrev pub record_of : ℕ → Account → RecordValue
 record_of list_bound account = record { path = account.path; parts = map (part_of list_bound) account.pieces }
 

@@ -33,6 +33,7 @@ total_with list_bound (HasBound b) (HasBound c) = HasBound b
 total_with list_bound (HasBound b) (HasSat context) = HasSat context
 total_with list_bound (HasBound b) Lost = Lost
 
+-- What one part adds up to.
 abbrev pub part_total : PartValue → Total
 part_total (Closed list) = AllClosed list
 part_total (Bounded b) = HasBound b
@@ -41,6 +42,7 @@ part_total (Gift turns) = Lost
 part_total (Cut key) = Lost
 part_total NoMemory = Lost
 
+-- What all parts add up to.
 abbrev pub total_of : ℕ → List PartValue → Total
 total_of list_bound [] = AllClosed (Whole [])
 total_of list_bound (first ∷ parts) = total_with list_bound (part_total first) (total_of list_bound parts)

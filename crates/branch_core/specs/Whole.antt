@@ -29,10 +29,11 @@ pub record AreWhole (search : SearchTree) (accounts : List Account) : Type 0 whe
   pub extends : (account : Account) (gift : Turns) → IsIn account accounts → IsIn (Gift gift) account.pieces → ProperlyExtends gift account.path
   pub stands : (account : Account) → IsIn account accounts → StandsFor (IsLicensed accounts) search account
 
--- Records are whole over a tree, and over the tree of a problem.
+-- Records are whole over a tree where they are those of whole accounts.
 abbrev pub AreWholeOver : ℕ → SearchTree → List RecordValue → Type 0
 AreWholeOver list_bound search records =
     (accounts : List Account) × AreWhole search accounts × (records ≡ map (record_of list_bound) accounts)
 
+-- Records are whole for a problem within bounds where they are whole over the tree that the rules make from the start of that sign.
 abbrev pub AreWholeRecords : ProblemValue → Bounds → Bool → List RecordValue → Type 0
 AreWholeRecords problem bounds positive records = (search : SearchTree) × IsSearchTree problem bounds (start positive) search × AreWholeOver bounds.list search records

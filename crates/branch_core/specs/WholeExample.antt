@@ -14,5 +14,6 @@ left_and_gift context =
     record { path = []; pieces = Sat (false ∷ []) context ∷ Gift (true ∷ []) ∷ [] }
     ∷ record { path = true ∷ []; pieces = NoMemory ∷ [] } ∷ []
 
+-- They are whole, whatever the right leaf came to.
 abbrev pub LeftAndGiftAreWhole : Type 0
 LeftAndGiftAreWhole = (context : Context) (other : TreeOutcome) → AreWhole (Node (Leaf (outcome.Sat context)) (Leaf other)) (left_and_gift context)

@@ -4,13 +4,17 @@
 //! records put together give the one answer, in whatever order and by however many workers they came.
 #![tactic(auto)]
 
+mod assembling;
+mod deciding;
 mod event;
+mod gathering;
 mod hook;
 mod laws;
 mod part;
 mod path;
 mod search_core;
 
+pub use assembling::assemble;
 pub use event::{Event, Illegal, PathState};
 pub use hook::{Give, Hook};
 pub use laws::{

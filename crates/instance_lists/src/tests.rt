@@ -1,3 +1,6 @@
+ghost use Rattle.std.specs.Prelude.{◌<◌};
+ghost use Rattle.me_terms.specs.Measures.{GREATEST_U64};
+
 use crate::{ListError, merge};
 use me_terms::{Atom, Instance, Instances, Literal, Literals, Terms};
 use std::alloc::{AllocError, Global};
@@ -28,7 +31,9 @@ fn units(alloc: Global, clauses: &[u32]) -> Result<Instances, AllocError> {
 }
 
 /// How long the list 0 is after it was merged with the list 0, 1, 1, or else the error.
-fn merged(alloc: Global, bound: u64) -> Result<u64, ListError> {
+fn merged(alloc: Global, bound: u64) -> Result<u64, ListError>
+    requires { bound < GREATEST_U64 }
+{
     let mut list = Instances::new(alloc);
     merge(alloc, &mut list, units(alloc, &[0])?, bound)?;
     merge(alloc, &mut list, units(alloc, &[0, 1, 1])?, bound)?;

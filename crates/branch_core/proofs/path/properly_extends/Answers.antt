@@ -1,4 +1,4 @@
-use Rattle.std.proofs.Common.{◌≡◌, ◌<◌, ◌≤◌, ◌+◌, ◌^◌, ◌++◌, [], ◌∷◌, ℕ, IsTrue, nat_eq, nat_lt, length, length-append, subst, ap, sym, ◌∙◌, refl, arith}
+use Rattle.std.proofs.Common.{◌≡◌, ◌<◌, ◌+◌, ◌^◌, ◌++◌, [], ◌∷◌, ℕ, IsTrue, nat_eq, length, length-append, ap, sym, ◌∙◌, refl, arith}
 use Rattle.std.proofs.lemmas.Grind.{common_steps}
 use Rattle.branch_core.specs.Paths.{Turns, turns_of, code_from, ProperlyExtends}
 use Rattle.branch_core.specs.PathLaws.{bits_turns}
