@@ -3,9 +3,12 @@ pub mod Causal
 pub mod Constants
 pub mod Drafted
 pub mod Fed
+pub mod Lawful
 pub mod Numbering
 pub mod Reached
+pub mod Sizes
 pub mod Stacks
 pub mod Steps
 pub mod Trees
+pub mod Valid
 pub mod Variables

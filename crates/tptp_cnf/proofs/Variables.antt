@@ -31,7 +31,7 @@ place_text text [] = refl
 place_text text (k ∷ ks) = ap (λ (n : ℕ). cond (not (bytes_eq text k.now)) (1 + n) 0) (place_text text ks)
 
 -- a new text stands at the place that it does not yet have
-pushed : (text : List ℕ) (known : List (List ℕ)) → list_any (bytes_eq text) known ≡ false → place_of text known ≡ place_of text (known ++ text ∷ [])
+pub pushed : (text : List ℕ) (known : List (List ℕ)) → list_any (bytes_eq text) known ≡ false → place_of text known ≡ place_of text (known ++ text ∷ [])
 pushed text [] e = sym (ap (λ (b : Bool). cond (not b) (1 + 0) 0) (text_itself text))
 pushed text (k ∷ known) e = by (bytes_eq text k) (list_any (bytes_eq text) known) e (pushed text known)
   where

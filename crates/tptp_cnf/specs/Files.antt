@@ -1,6 +1,8 @@
 -- Which bytes are a file of the profile, and the problem that it means.
 use Rattle.std.specs.Prelude.{◌≡◌, ℕ, List}
-use Rattle.me_terms.specs.Values.{ProblemValue}
+use Rattle.std.specs.List.{sum_by}
+use Rattle.me_terms.specs.Measures.{literals_weight}
+use Rattle.me_terms.specs.Values.{ClauseValue, ProblemValue}
 use Rattle.tptp_tokens.specs.Tokens.{PlacedToken, IsCut}
 use Rattle.tptp_grammar.specs.Terminals.{terminals}
 use Rattle.tptp_grammar.specs.Written.{WrittenFormula}
@@ -14,3 +16,7 @@ pub record IsFile (bytes : List ℕ) (problem : ProblemValue) : Type 0 where
   pub file : List WrittenFormula
   pub written : grammar.IsFile (terminals tokens) file
   pub means : problem ≡ problem_of file
+
+-- the sum of the weights of the clauses
+abbrev pub clauses_weight : List ClauseValue → ℕ
+clauses_weight clauses = sum_by (λ c. literals_weight c.literals) clauses

@@ -2,8 +2,9 @@
 //!
 //! The tokens of the bytes are taken one after another, each by the machine of the grammar, which says
 //! what it is in the file or refuses it, and by the builder of the problem.
-ghost use Rattle.std.specs.Prelude.{◌≡◌, ◌≤◌, length, OnOk, IfOk, IfErr};
-ghost use Rattle.tptp_cnf.specs.Files.{IsFile};
+ghost use Rattle.std.specs.Prelude.{◌≡◌, ◌+◌, ◌≤◌, length, OnOk, IfOk, IfErr};
+ghost use Rattle.me_terms.specs.Validity.{IsValid};
+ghost use Rattle.tptp_cnf.specs.Files.{IsFile, clauses_weight};
 ghost use Rattle.tptp_cnf.specs.Causes.{IsCause};
 
 use crate::builder::Builder;
@@ -44,12 +45,17 @@ impl<'a> Reader<'a> {
     }
 }
 
-/// The problem that the bytes mean as a file of the profile. Each refusal but `Memory` has its cause at
-/// its place.
+/// The problem that the bytes mean as a file of the profile, which is valid. The sum of its clauses'
+/// weights, its number of functions and its number of predicates are each at most one more than the
+/// number of bytes. Each refusal but `Memory` has its cause at its place.
 pub fn read_problem(alloc: Global, bytes: &[u8]) -> Result<Problem, CnfError>
     requires { length bytes.now ≤ 67108864 }
     ensures means { IfOk result (IsFile bytes.now) }
     ensures cause { IfErr result (IsCause bytes.now) }
+    ensures valid { IfOk result IsValid }
+    ensures weight { IfOk result (λ problem. clauses_weight problem.clauses ≤ length bytes.now + 1) }
+    ensures functions { IfOk result (λ problem. length problem.signature.functions ≤ length bytes.now + 1) }
+    ensures predicates { IfOk result (λ problem. length problem.signature.predicates ≤ length bytes.now + 1) }
 {
     let mut tokenizer = Tokenizer::new(bytes);
     let mut reader = Reader {

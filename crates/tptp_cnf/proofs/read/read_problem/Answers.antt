@@ -1,9 +1,12 @@
-use Rattle.std.proofs.Common.{◌≡◌, Result, Err, refl, sym, subst}
+use Rattle.std.proofs.Common.{◌≡◌, Result, Err, refl, sym, subst, arith}
 use Rattle.std.specs.Prelude.{IfErr}
 use Rattle.std.proofs.lemmas.Result.{err_from_is_err_and}
 use Rattle.tptp_cnf.specs.declared.error.CnfError.{CnfError}
 use Rattle.tptp_cnf.specs.Causes.{IsCause}
 use Rattle.tptp_cnf.proofs.Reached.{reached_more, stopped, ended_early, means, not_between}
+use Rattle.tptp_cnf.specs.Files.{IsFile}
+use Rattle.tptp_cnf.proofs.Sizes.{small}
+use Rattle.tptp_cnf.proofs.Valid.{valid}
 use Rattle.tptp_cnf.proofs.read.read_problem.Goals as goal
 
 on_err : {A : Type 0} (r : Result A CnfError) (P : CnfError → Type 0) (y e : CnfError) → r ≡ Err y → y ≡ e → P e → IfErr r P
@@ -19,6 +22,27 @@ returns-in_err-step-clause-cause c =
 
 pub returns-then-not-is_whole-clause-cause : goal.returns-then-not-is_whole-clause-cause
 returns-then-not-is_whole-clause-cause c = ended_early _ _ _ _ _ c.tokens.invariant c.in_default.ensures.none (not_between _ _ c.is_whole.ensures c.if-not-is_whole.true) refl
+
+pub returns-clause-valid : goal.returns-clause-valid
+returns-clause-valid c =
+    let f : IsFile c.args.bytes.now c.in_ok-finish.field-0 = means _ _ _ _ _ c.tokens.invariant c.in_default.ensures.none (c.is_whole.ensures.0 c.if-not-is_whole.false) c.in_ok-finish.ensures in
+    valid c.args.bytes.now c.in_ok-finish.field-0 f (small c.args.bytes.now c.in_ok-finish.field-0 f) c.requires
+
+pub returns-clause-weight : goal.returns-clause-weight
+returns-clause-weight c =
+    let f : IsFile c.args.bytes.now c.in_ok-finish.field-0 = means _ _ _ _ _ c.tokens.invariant c.in_default.ensures.none (c.is_whole.ensures.0 c.if-not-is_whole.false) c.in_ok-finish.ensures in
+    let s = small c.args.bytes.now c.in_ok-finish.field-0 f in
+    omega (arith, s.clauses)
+
+pub returns-clause-functions : goal.returns-clause-functions
+returns-clause-functions c =
+    let f : IsFile c.args.bytes.now c.in_ok-finish.field-0 = means _ _ _ _ _ c.tokens.invariant c.in_default.ensures.none (c.is_whole.ensures.0 c.if-not-is_whole.false) c.in_ok-finish.ensures in
+    (small c.args.bytes.now c.in_ok-finish.field-0 f).functions
+
+pub returns-clause-predicates : goal.returns-clause-predicates
+returns-clause-predicates c =
+    let f : IsFile c.args.bytes.now c.in_ok-finish.field-0 = means _ _ _ _ _ c.tokens.invariant c.in_default.ensures.none (c.is_whole.ensures.0 c.if-not-is_whole.false) c.in_ok-finish.ensures in
+    (small c.args.bytes.now c.in_ok-finish.field-0 f).predicates
 
 pub returns-clause-means : goal.returns-clause-means
 returns-clause-means c = means _ _ _ _ _ c.tokens.invariant c.in_default.ensures.none (c.is_whole.ensures.0 c.if-not-is_whole.false) c.in_ok-finish.ensures
