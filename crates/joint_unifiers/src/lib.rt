@@ -13,3 +13,6 @@ mod unifier;
 pub use contradiction::is_contradictory;
 pub use joint::joint_unifier;
 pub use unifier::Unifier;
+
+#[cfg(test)]
+mod tests;
