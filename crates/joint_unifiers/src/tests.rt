@@ -1,5 +1,5 @@
 //! Unifiers of clauses of two literals with entries of small contexts, and contradiction of a literal.
-ghost use Rattle.std.specs.Prelude.{◌≡◌, ℕ, ◌∷◌, [], not, IfOk, IsTrue};
+ghost use Rattle.std.specs.Prelude.{◌≡◌, ◌∷◌, [], length, not, IfOk, IsTrue};
 ghost use Rattle.me_terms.specs.TermViews.{term_value};
 ghost use Rattle.me_terms.specs.Terms as tree;
 ghost use Rattle.me_terms.specs.Values.{EntryValue};
@@ -118,7 +118,9 @@ fn first_alone(
     first: Literal,
     second: Literal,
     a: u32,
-) -> Result<Option<Unifier>, Fail> {
+) -> Result<Unifier, Fail>
+    ensures { IfOk result (λ u. length u.literals ≡ 2) }
+{
     if !is_opposite(context, a, &first) {
         return Err("opposite".into());
     }
@@ -127,7 +129,11 @@ fn first_alone(
     let Ok(()) = tuple.push(a) else {
         return Err("memory".into());
     };
-    Ok(joint_unifier(alloc, &clause, Some(1), &tuple, context)?)
+    let unifier = joint_unifier(alloc, &clause, Some(1), &tuple, context)?;
+    match unifier {
+        Some(unifier) => Ok(unifier),
+        None => Err("a unifier".into()),
+    }
 }
 
 /// The unifier of both literals with the pseudo-literal.
@@ -137,7 +143,9 @@ fn with_pseudo(
     context: &Context,
     first: Literal,
     second: Literal,
-) -> Result<Option<Unifier>, Fail> {
+) -> Result<Unifier, Fail>
+    ensures { IfOk result (λ u. length u.literals ≡ 2) }
+{
     if !is_opposite(context, 0, &first) {
         return Err("opposite".into());
     }
@@ -152,26 +160,88 @@ fn with_pseudo(
     let Ok(()) = tuple.push(0) else {
         return Err("memory".into());
     };
-    Ok(joint_unifier(alloc, &clause, None, &tuple, context)?)
+    let unifier = joint_unifier(alloc, &clause, None, &tuple, context)?;
+    match unifier {
+        Some(unifier) => Ok(unifier),
+        None => Err("a unifier".into()),
+    }
 }
 
-/// ~p(X) | p(X) with p(h(X,Y)) against the first place alone.
+/// `~p(X) | p(X)` with the entry `p(h(X,Y))` for the first place alone.
 #[test]
 fn a_skipped_place_gets_what_the_others_give(rt: HostRuntime) -> Result<(), Fail> {
     let alloc = rt.alloc();
     let context = example(alloc, Kind::Parametric, true)?;
     let first = literal(alloc, false, false, 0, 0)?;
     let second = literal(alloc, true, false, 0, 0)?;
-    let Some(unifier) = first_alone(alloc, &context, first, second, 1)? else {
-        return Err("a unifier".into());
-    };
-    assert!(rt; unifier.remainder().is_empty());
-    assert!(rt; second_is_pair(alloc, &unifier)?);
+    let unifier = first_alone(alloc, &context, first, second, 1)?;
+    let other = unifier.literal(1)?;
+    let wide = literal(alloc, true, true, 0, 1)?;
+    assert!(rt; other == wide && unifier.remainder().is_empty());
     Ok(())
 }
 
-/// Whether the second literal has become p(h(X,Y)).
-fn second_is_pair(alloc: Global, unifier: &Unifier) -> Result<bool, Fail> {
-    let pair = literal(alloc, true, true, 0, 1)?;
-    Ok(unifier.literal(1)? == pair)
+/// `p(X) | p(h(X,Y))` with the pseudo-literal for both places.
+#[test]
+fn the_pseudo_literal_remains_at_each_place(rt: HostRuntime) -> Result<(), Fail> {
+    let alloc = rt.alloc();
+    let context = example(alloc, Kind::Universal, false)?;
+    let first = literal(alloc, true, false, 0, 0)?;
+    let second = literal(alloc, true, true, 0, 1)?;
+    let unifier = with_pseudo(alloc, &context, first, second)?;
+    assert_eq!(rt; unifier.remainder().as_slice(), [0, 1].as_slice());
+    Ok(())
+}
+
+/// `~p(h(X,X))` with the entry `p(h(X,Y))`, whose variables become one, and `~p(h(X,Y))` with `p(X)`.
+#[test]
+fn variables_that_stay_variables_put_no_place_in_the_remainder(
+    rt: HostRuntime,
+) -> Result<(), Fail> {
+    let alloc = rt.alloc();
+    let context = example(alloc, Kind::Parametric, true)?;
+    let first = literal(alloc, false, true, 0, 0)?;
+    let second = literal(alloc, true, false, 0, 0)?;
+    let unifier = first_alone(alloc, &context, first, second, 1)?;
+    assert!(rt; unifier.remainder().is_empty());
+    let context = example(alloc, Kind::Parametric, false)?;
+    let first = literal(alloc, false, true, 0, 1)?;
+    let second = literal(alloc, true, false, 0, 0)?;
+    let unifier = first_alone(alloc, &context, first, second, 1)?;
+    assert_eq!(rt; unifier.remainder().len(), 1);
+    assert!(rt; unifier.tuple().len() == 1 && !unifier.ground(1));
+    assert!(rt; unifier.weight(0) == 4 && unifier.depth(0) == 2);
+    Ok(())
+}
+
+/// Whether `~p(h(X,Y))` or `~p(X)` contradicts `p(h(X,Y))` or `p(X)`, each of a kind.
+fn contradicts(
+    alloc: Global,
+    entry_kind: Kind,
+    entry_is_wide: bool,
+    kind: Kind,
+    is_wide: bool,
+    y: u32,
+) -> Result<bool, Fail> {
+    let context = example(alloc, entry_kind, entry_is_wide)?;
+    let lit = literal(alloc, false, is_wide, 0, y)?;
+    Ok(is_contradictory(alloc, &context, &lit, kind)?)
+}
+
+#[test]
+fn universal_literals_contradict_where_they_unify(rt: HostRuntime) -> Result<(), Fail> {
+    let alloc = rt.alloc();
+    assert!(rt; contradicts(alloc, Kind::Universal, true, Kind::Universal, false, 1)?);
+    assert!(rt; contradicts(alloc, Kind::Universal, false, Kind::Parametric, true, 1)?);
+    assert!(rt; !contradicts(alloc, Kind::Universal, true, Kind::Parametric, false, 1)?);
+    Ok(())
+}
+
+#[test]
+fn parametric_entries_contradict_where_they_match(rt: HostRuntime) -> Result<(), Fail> {
+    let alloc = rt.alloc();
+    assert!(rt; contradicts(alloc, Kind::Parametric, true, Kind::Universal, false, 1)?);
+    assert!(rt; contradicts(alloc, Kind::Parametric, true, Kind::Parametric, true, 3)?);
+    assert!(rt; !contradicts(alloc, Kind::Parametric, true, Kind::Parametric, true, 0)?);
+    Ok(())
 }
