@@ -56,7 +56,7 @@ at_within (l ∷ literals) zero lt = (l, refl)
 at_within (l ∷ literals) (suc place) lt = at_within literals place (omega (arith, lt))
 
 only_place : (place k : ℕ) → Contains (place ∷ []) k → k ≡ place
-only_place place k h = elim (Contains-push_cases [] place k h) [ | inl none ↦ absurd (nowhere k none) | inr same ↦ sym same ]
+only_place place k h = elim (Contains-push_cases [] place k h) [ inl none ↦ absurd (nowhere k none) | inr same ↦ sym same ]
 
 -- A single place whose literal is not.
 pub nothing_fits : (literals : List Literal) (place : ℕ) (bounds : Bounds) (f : Family) → ((l : Literal) → slice_get literals place ≡ Some l → ¬ Fits bounds (unified f l)) → IsChosen literals (place ∷ []) bounds f None
@@ -89,7 +89,7 @@ in_either literals xs ys bounds f k l may = elim (Contains-append_cases xs ys k 
 
 -- Nothing is within the bounds in either list.
 pub neither : (literals : List Literal) (xs ys : List ℕ) (bounds : Bounds) (f : Family) → IsChosen literals xs bounds f None → IsChosen literals ys bounds f None → IsChosen literals (xs ++ ys) bounds f None
-neither literals xs ys bounds f none nor k l may = elim (in_either literals xs ys bounds f k l may) [ | inl first ↦ none k l first | inr second ↦ nor k l second ]
+neither literals xs ys bounds f none nor k l may = elim (in_either literals xs ys bounds f k l may) [ inl first ↦ none k l first | inr second ↦ nor k l second ]
 
 -- The choice of the first list comes before all of the second.
 pub first_stays : (literals : List Literal) (xs ys : List ℕ) (bounds : Bounds) (f : Family) (choice : SplitChoice) → IsSplitChoice literals xs bounds f choice → ((k : ℕ) (l : Literal) → MaySplit literals ys bounds f k l → Precedes (place_key choice.weight choice.place) (place_key (literal_weight (unified f l)) k))
@@ -99,7 +99,7 @@ first_stays literals xs ys bounds f choice h before = record {
   allowed = record { remains = Contains-append_left xs ys choice.place h.allowed.remains; literal_at = h.allowed.literal_at; fits = h.allowed.fits };
   kind = h.kind;
   weight = h.weight;
-  least = λ k l may. elim (in_either literals xs ys bounds f k l may) [ | inl first ↦ h.least k l first | inr second ↦ before k l second ];
+  least = λ k l may. elim (in_either literals xs ys bounds f k l may) [ inl first ↦ h.least k l first | inr second ↦ before k l second ];
 }
 
 -- The choice of the second list comes before all of the first.
@@ -110,7 +110,7 @@ second_stays literals xs ys bounds f choice h before = record {
   allowed = record { remains = Contains-append_right xs ys choice.place h.allowed.remains; literal_at = h.allowed.literal_at; fits = h.allowed.fits };
   kind = h.kind;
   weight = h.weight;
-  least = λ k l may. elim (in_either literals xs ys bounds f k l may) [ | inl first ↦ before k l first | inr second ↦ h.least k l second ];
+  least = λ k l may. elim (in_either literals xs ys bounds f k l may) [ inl first ↦ before k l first | inr second ↦ h.least k l second ];
 }
 
 -- What is chosen of two lists is the first one of what is chosen of each.

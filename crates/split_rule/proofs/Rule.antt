@@ -1,5 +1,5 @@
 -- What is chosen of a productive unifier's remainder is rule Split's.
-use Rattle.std.proofs.Common.{◌≡◌, ℕ, suc, ◌+◌, ◌<◌, List, [], ◌∷◌, ◌++◌, ◌⊎◌, ◌↔◌, Bool, true, false, cond, length, slice_get, Option, Some, None, refl, sym, subst, ap, ◌∙◌, inl, inr, arith}
+use Rattle.std.proofs.Common.{◌≡◌, ℕ, suc, ◌+◌, ◌<◌, List, [], ◌∷◌, ◌++◌, ◌⊎◌, ◌↔◌, Bool, true, false, cond, length, slice_get, Option, Some, None, IsSome, IfSome, refl, sym, subst, ap, ◌∙◌, inl, inr, arith}
 use Rattle.std.specs.List.{Contains}
 use Rattle.me_terms.specs.Substitutions.{Family}
 use Rattle.me_terms.specs.Variables.{are_ground}
@@ -127,3 +127,12 @@ remainder_places context literals skip tuple u f unifier of =
     let each : EachOf P (remainder context (positions_of skip tuple) f) = each_map (λ place. place < 0 + length (positions_of skip tuple)) P (λ place lt. omega (arith, lt, number)) (remainder context (positions_of skip tuple) f) (remaining_from 0 context (positions_of skip tuple) f) in
     let Q : List ℕ → Type 0 = λ ps. EachOf P ps in
     all_of P u.remainder (subst Q (sym places) each)
+
+-- The same of what a clause's unifiers are known by.
+pub places_of_unifier : (context : Context) (literals : List Literal) (skip : Option ℕ) (tuple : List ℕ) (o : Option UnifierValue) (u : UnifierValue) → o ≡ Some u → (IsSome o ↔ ((f : Family) × IsContextUnifier context literals skip tuple f)) → IfSome o (IsUnifierOf context literals skip tuple)
+    → ArePlaces u.literals u.remainder
+places_of_unifier context literals skip tuple o u is exact of =
+    let P : Option UnifierValue → Type 0 = λ p. IsSome p ↔ ((f : Family) × IsContextUnifier context literals skip tuple f) in
+    let Q : Option UnifierValue → Type 0 = λ p. IfSome p (IsUnifierOf context literals skip tuple) in
+    let found = (subst P is exact).0 refl in
+    remainder_places context literals skip tuple u found.0 found.1 (subst Q is of)

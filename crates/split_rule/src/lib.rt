@@ -9,3 +9,6 @@ mod split;
 
 pub use choice::SplitChoice;
 pub use split::split_of;
+
+#[cfg(test)]
+mod tests;
