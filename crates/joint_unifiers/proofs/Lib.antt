@@ -1,7 +1,9 @@
 pub mod Adding
 pub mod Bridge
+pub mod CanonicalMeasures
 pub mod ContextUnifiers
 pub mod Contradictions
+pub mod Fitting
 pub mod Measuring
 pub mod Positions
 pub mod Remaining

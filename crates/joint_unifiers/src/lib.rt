@@ -6,6 +6,7 @@
 
 mod contradiction;
 mod equations;
+mod fits;
 mod joint;
 mod remainder;
 mod unifier;
