@@ -39,11 +39,6 @@ refuted whole old i context ls ks l k at pos is h =
     let e = added whole old now i context ls ks l k at pos is refl in
     (h.0, solves_first h.0 now (left_from (i + 1) context ls ks) (subst (λ (z : List Equation). SolvesAll h.0 z) e h.1))
 
--- nothing is left
-pub all_added : (whole new : List Equation) (i : ℕ) (context : Context) (ls : List Literal) (ks : List (Option ℕ)) → length ls ≤ i → whole ≡ new ++ left_from i context ls ks → whole ≡ new
-all_added whole new i context ls ks past is =
-    is ∙ (ap (λ z. new ++ equations_from i context z (drop i ks)) (drop_all i ls past) ∙ append-nil new)
-
 pub none_solvable : (es : List Equation) → es ≡ [] → IsSolvable es
 none_solvable [] e = ((λ space x. Var x), λ k d lt. absurd (omega arith))
 none_solvable (f ∷ es) e = cc

@@ -5,3 +5,4 @@ pub mod Contradictions
 pub mod Measuring
 pub mod Positions
 pub mod Remaining
+pub mod Samples

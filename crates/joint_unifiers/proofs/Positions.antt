@@ -6,18 +6,6 @@ use Rattle.std.proofs.lemmas.Option.{same_Some}
 use Rattle.me_terms.specs.Positions.{positions_of}
 use Rattle.joint_unifiers.specs.Places.{IsPlaceOf}
 
-pub before_skip : {A : Type 0} (xs : List A) (skip i : ℕ) (x : A) → i < skip → skip ≤ length xs → slice_get (insert xs skip x) i ≡ slice_get xs i
-before_skip [] skip i x lt le = absurd (omega arith)
-before_skip (y ∷ xs) zero i x lt le = absurd (omega arith)
-before_skip (y ∷ xs) (suc skip) zero x lt le = refl
-before_skip (y ∷ xs) (suc skip) (suc i) x lt le = before_skip xs skip i x (omega arith) (omega arith)
-
-pub at_skip : {A : Type 0} (xs : List A) (skip : ℕ) (x : A) → skip ≤ length xs → slice_get (insert xs skip x) skip ≡ Some x
-at_skip [] zero x le = refl
-at_skip [] (suc skip) x le = absurd (omega arith)
-at_skip (y ∷ xs) zero x le = refl
-at_skip (y ∷ xs) (suc skip) x le = at_skip xs skip x (omega arith)
-
 pub after_skip : {A : Type 0} (xs : List A) (skip i : ℕ) (x : A) → skip ≤ i → skip ≤ length xs → slice_get (insert xs skip x) (suc i) ≡ slice_get xs i
 after_skip [] zero i x lt le = refl
 after_skip [] (suc skip) i x lt le = absurd (omega arith)
@@ -37,25 +25,8 @@ some_there [] i lt = absurd (omega arith)
 some_there (k ∷ tuple) zero lt = refl
 some_there (k ∷ tuple) (suc i) lt = some_there tuple i (omega arith)
 
-pub position_whole : (skip : Option ℕ) (tuple : List ℕ) (place : ℕ) (found : Option ℕ) → skip ≡ None → place < length (positions_of skip tuple) → found ≡ slice_get tuple place → slice_get (positions_of skip tuple) place ≡ Some found
-position_whole None tuple place found is lt e = some_there tuple place (omega (arith, length-map tuple (λ (k : ℕ). Some k))) ∙ ap Some (sym e)
-position_whole (Some r) tuple place found is lt e = cc
-
 shifted : (r s : ℕ) (tuple : List ℕ) → Some r ≡ Some s → r < length (positions_of (Some r) tuple) → (r ≡ s) × (r ≤ length (map Some tuple))
 shifted r s tuple is lt = (same_Some r s is, omega (arith, with_one (map Some tuple) r None))
-
-pub position_before : (skip : Option ℕ) (tuple : List ℕ) (s place : ℕ) (found : Option ℕ) → skip ≡ Some s → IsPlaceOf skip (length (positions_of skip tuple)) → place < s → found ≡ slice_get tuple place → slice_get (positions_of skip tuple) place ≡ Some found
-position_before None tuple s place found is skipped lt e = cc
-position_before (Some r) tuple s place found is skipped lt e =
-    let z = shifted r s tuple is skipped in
-    before_skip (map Some tuple) r place None (omega arith) z.1 ∙ (some_there tuple place (omega (arith, length-map tuple (λ (k : ℕ). Some k))) ∙ ap Some (sym e))
-
-pub position_skipped : (skip : Option ℕ) (tuple : List ℕ) (s place : ℕ) → skip ≡ Some s → IsPlaceOf skip (length (positions_of skip tuple)) → place ≡ s → slice_get (positions_of skip tuple) place ≡ Some None
-position_skipped None tuple s place is skipped e = cc
-position_skipped (Some r) tuple s place is skipped e =
-    let z = shifted r s tuple is skipped in
-    let same : r ≡ place = z.0 ∙ sym e in
-    subst (λ (i : ℕ). slice_get (insert (map Some tuple) r None) i ≡ Some None) same (at_skip (map Some tuple) r None z.1)
 
 pub position_after : (skip : Option ℕ) (tuple : List ℕ) (s place : ℕ) (found : Option ℕ) → skip ≡ Some s → IsPlaceOf skip (length (positions_of skip tuple)) → place < length (positions_of skip tuple) → s < place → found ≡ slice_get tuple (place - 1)
     → slice_get (positions_of skip tuple) place ≡ Some found

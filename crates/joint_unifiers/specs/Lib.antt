@@ -3,3 +3,4 @@ pub mod ClauseUnifiers
 pub mod Contradiction
 pub mod Measured
 pub mod Places
+pub mod Samples

@@ -58,12 +58,7 @@ pub fn is_restricted(bindings: &Bindings, space: u32, entry: &Entry) -> bool
 }
 
 /// The same of the entry at a position, if anything stands there.
-fn remains_at<V: View>(
-    bindings: &Bindings,
-    view: &V,
-    space: u32,
-    position: Option<u32>,
-) -> bool
+fn remains_at<V: View>(bindings: &Bindings, view: &V, space: u32, position: Option<u32>) -> bool
     ensures { (u : Family) → IsMostGeneral bindings.now u → result ≡ remains_there (entry_at (V.context view.now) position) (u space) }
 {
     let Some(k) = position else {
@@ -102,7 +97,11 @@ pub(crate) fn remaining<V: View>(
     let mut places = Places::new(alloc);
     for place in 0..count {
         let position = position_at(skip, tuple, place);
-        push_if(&mut places, place, remains_at(bindings, view, place + 1, position))?;
+        push_if(
+            &mut places,
+            place,
+            remains_at(bindings, view, place + 1, position),
+        )?;
     }
     Ok(places)
 }

@@ -23,8 +23,7 @@ loop-place-preserved g c =
     let place : slice_get c.args.literals.now c.loop-place.place ≡ Some item = slice_get_read c.args.literals.now (length c.args.literals.now) c.loop-place.place item refl c.loop-place-test.true c.index-literals-place.is in
     let yes : c.in_ok-add_position.field-0 ≡ true = cc (c.if-not-branch.false) in
     let more = c.in_ok-add_position.ensures.yes yes in
-    let P : List Equation → Type 0 = λ es. IsSolvable es in
     record {
-      solvable = subst P (sym more) (c.in_ok-add_position.ensures.exact.0 yes);
+      solvable = rw more (c.in_ok-add_position.ensures.exact.0 yes);
       left = added _ c.loop-place.bindings _ c.loop-place.place (g.V.View.context c.args.view.now) c.args.literals.now _ item c.position_at-position.result place c.position_at-position.ensures c.loop-place.invariant.left more;
     }

@@ -25,8 +25,7 @@ new-requires g c =
     let context = g.V.View.context c.args.view.now in
     let positions = positions_of c.args.skip c.args.tuple.now.items in
     let yes : c.in_ok-add_places.field-0 ≡ true = cc (c.if-not-branch.false) in
-    let Q : List Equation → Type 0 = λ es. (u : Family) × IsMostGeneral es u in
-    subst Q (sym (c.in_ok-add_places.ensures.yes yes)) (general_of context c.as_slice.result.now positions (c.in_ok-add_places.ensures.exact.0 yes))
+    rw (c.in_ok-add_places.ensures.yes yes) (general_of context c.as_slice.result.now positions (c.in_ok-add_places.ensures.exact.0 yes))
 
 pub returns-clause-exact : goal.returns-clause-exact
 returns-clause-exact g c =
