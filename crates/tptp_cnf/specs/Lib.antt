@@ -1,5 +1,6 @@
 pub mod Meaning
 pub mod Files
 pub mod Causes
+pub mod Plain
 pub mod Rows
 pub mod Views
