@@ -1,6 +1,7 @@
 pub mod Bound
 pub mod Cut
 pub mod Forest
+pub mod Indexed
 pub mod Made
 pub mod Measures
 pub mod MoreNodes

@@ -1,5 +1,5 @@
 -- What is read off the links is what each most general unifier has.
-use Rattle.std.proofs.Common.{◌≡◌, ℕ, ◌<◌, List, length, slice_get, get_or, Some, refl, ap, sym, ◌∙◌}
+use Rattle.std.proofs.Common.{arith, ◌≡◌, ℕ, ◌<◌, List, length, slice_get, get_or, Some, refl, ap, sym, ◌∙◌}
 use Rattle.std.proofs.Common.{Vec, Global}
 use Rattle.me_terms.specs.Terms.{TermValue, AtomValue}
 use Rattle.me_terms.specs.Terms as tree
@@ -12,7 +12,7 @@ use Rattle.me_terms.specs.declared.atom.Literal.{Literal}
 use Rattle.me_laws.proofs.Pairing.{apart}
 use Rattle.me_laws.proofs.Generality.{atom_followed}
 use Rattle.me_laws.proofs.Renaming.{Variants, canonical_same}
-use Rattle.std.proofs.lemmas.Option.{slice_get_within, slice_get-get_or}
+use Rattle.std.proofs.lemmas.Option.{slice_get_within}
 use Rattle.me_unify.specs.declared.links.Links.{Links}
 use Rattle.me_unify.specs.declared.node.Node.{Node}
 use Rattle.me_unify.specs.declared.node.Node.TheVariants.{Var, App}
@@ -43,18 +43,23 @@ at_free nodes l x n a s free at =
 
 -- a node, and the last one that it is linked to
 last_is : (nodes : List Node) (l : Links) (x last : ℕ) (v n : Node) → IsArena nodes l → IsSolved nodes l → last < length l.place.items → get_or l.place.items last 0 ≡ NONE → Alike l x last
-    → v ≡ get_or nodes last v → v ≡ n → term_at nodes l x ≡ of_node apart (term_at nodes l) (Some n)
-last_is nodes l x last v n a s within free alike at is =
-    let w : last < length nodes = rw a.sized within in
-    at_alike nodes l x last a s alike ∙ at_free nodes l last n a s free (slice_get-get_or nodes last v w ∙ ap Some (sym at ∙ is))
+    → slice_get nodes last ≡ Some v → v ≡ n → term_at nodes l x ≡ of_node apart (term_at nodes l) (Some n)
+last_is nodes l x last v n a s within free alike at is = at_alike nodes l x last a s alike ∙ at_free nodes l last n a s free (at ∙ ap Some is)
 
 pub last_var : (nodes : List Node) (l : Links) (x last : ℕ) (v : Node) (space var : ℕ) → IsArena nodes l → IsSolved nodes l → last < length l.place.items → get_or l.place.items last 0 ≡ NONE → Alike l x last
-    → v ≡ get_or nodes last v → v ≡ Var space var → term_at nodes l x ≡ apart space var
+    → slice_get nodes last ≡ Some v → v ≡ Var space var → term_at nodes l x ≡ apart space var
 last_var nodes l x last v space var a s within free alike at is = last_is nodes l x last v (Var space var) a s within free alike at is
 
 pub last_app : (nodes : List Node) (l : Links) (x last : ℕ) (v : Node) (f : ℕ) (args : Vec ℕ Global) → IsArena nodes l → IsSolved nodes l → last < length l.place.items → get_or l.place.items last 0 ≡ NONE → Alike l x last
-    → v ≡ get_or nodes last v → v ≡ App f args → term_at nodes l x ≡ tree.App f (coloured (term_at nodes l) args.items)
+    → slice_get nodes last ≡ Some v → v ≡ App f args → term_at nodes l x ≡ tree.App f (coloured (term_at nodes l) args.items)
 last_app nodes l x last v f args a s within free alike at is = last_is nodes l x last v (App f args) a s within free alike at is
+
+pub args_within : (nodes : List Node) (l : Links) (x : ℕ) (v : Node) (f : ℕ) (args : Vec ℕ Global) → IsArena nodes l → slice_get nodes x ≡ Some v → v ≡ App f args → (i : ℕ) → i < length args.items → get_or args.items i 0 < length nodes
+args_within nodes l x v f args a at is i lt =
+    let there : slice_get nodes x ≡ Some (App f args) = at ∙ ap Some is in
+    let low : get_or args.items i 0 < x = a.fit x (App f args) there i lt in
+    let within = slice_get_within nodes x (App f args) there in
+    omega (arith, low, within)
 
 -- ---- a most general unifier that is read off
 pub record IsReadUnifier (nodes : List Node) (l : Links) (steps : List Step) (v : Family) : Type 0 where

@@ -36,9 +36,9 @@ impl Model for Bindings {
 
     ghost use Rattle.me_unify.specs.Marks.{equations_of, AreBound};
 
-    ghost view = { λ b. equations_of b.arena.nodes.items b.steps.items };
+    ghost view = { λ b. equations_of b.arena.nodes b.steps.items };
 
-    ghost invariant = { λ b. AreBound b.arena.nodes.items b.arena.links b.steps.items };
+    ghost invariant = { λ b. AreBound b.arena.nodes b.arena.links b.steps.items };
 }
 
 impl Bindings {

@@ -12,6 +12,7 @@ mod equate;
 mod links;
 mod measure;
 mod node;
+mod node_list;
 mod order;
 mod reading;
 mod step;

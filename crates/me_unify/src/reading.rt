@@ -44,14 +44,14 @@ impl Arena {
         names: &mut IndexSet<(u32, u32)>,
         x: u32,
     ) -> Result<Term, AllocError>
-        requires arena { IsArena self.now.nodes.items self.now.links }
-        requires solution { IsSolved self.now.nodes.items self.now.links }
-        requires within { x < length self.now.nodes.items }
-        ensures names { OnOk result (numbers names.new.keys ≡ first_ones (numbers names.old.keys) (term_variables (term_at self.now.nodes.items self.now.links x))) }
-        ensures term { IfOk result (λ form. (later : List ℕ) → term_value form ≡ apply_term (by_place (numbers names.new.keys ++ later)) (term_at self.now.nodes.items self.now.links x)) }
+        requires arena { IsArena self.now.nodes self.now.links }
+        requires solution { IsSolved self.now.nodes self.now.links }
+        requires within { x < length self.now.nodes }
+        ensures names { OnOk result (numbers names.new.keys ≡ first_ones (numbers names.old.keys) (term_variables (term_at self.now.nodes self.now.links x))) }
+        ensures term { IfOk result (λ form. (later : List ℕ) → term_value form ≡ apply_term (by_place (numbers names.new.keys ++ later)) (term_at self.now.nodes self.now.links x)) }
     {
         let last = self.links.find(x);
-        match &self.nodes[last as usize] {
+        match self.nodes.node(last) {
             Node::Var { space, var } => Ok(Term::Var(number(names, *space, *var)?)),
             Node::App { f, args } => Ok(Term::App {
                 f: *f,
@@ -67,11 +67,11 @@ impl Arena {
         names: &mut IndexSet<(u32, u32)>,
         xs: &[u32],
     ) -> Result<Terms, AllocError>
-        requires arena { IsArena self.now.nodes.items self.now.links }
-        requires solution { IsSolved self.now.nodes.items self.now.links }
-        requires within { (i : ℕ) → i < length xs.now → slice_index xs.now i < length self.now.nodes.items }
-        ensures names { OnOk result (numbers names.new.keys ≡ first_ones (numbers names.old.keys) (variables_of (coloured (term_at self.now.nodes.items self.now.links) xs.now))) }
-        ensures terms { IfOk result (λ form. (later : List ℕ) → arguments_of form.items ≡ apply_arguments (by_place (numbers names.new.keys ++ later)) (coloured (term_at self.now.nodes.items self.now.links) xs.now)) }
+        requires arena { IsArena self.now.nodes self.now.links }
+        requires solution { IsSolved self.now.nodes self.now.links }
+        requires within { (i : ℕ) → i < length xs.now → slice_index xs.now i < length self.now.nodes }
+        ensures names { OnOk result (numbers names.new.keys ≡ first_ones (numbers names.old.keys) (variables_of (coloured (term_at self.now.nodes self.now.links) xs.now))) }
+        ensures terms { IfOk result (λ form. (later : List ℕ) → arguments_of form.items ≡ apply_arguments (by_place (numbers names.new.keys ++ later)) (coloured (term_at self.now.nodes self.now.links) xs.now)) }
     {
         let mut made = Terms::new(alloc);
         for k in 0..xs.len() {
@@ -91,12 +91,12 @@ impl Arena {
         space: u32,
         var: u32,
     ) -> Result<Term, AllocError>
-        requires arena { IsArena self.now.nodes.items self.now.links }
-        requires solution { IsSolved self.now.nodes.items self.now.links }
-        ensures names { (u : Family) → IsRead self.now.nodes.items self.now.links u → OnOk result (numbers names.new.keys ≡ first_ones (numbers names.old.keys) (term_variables (u space var))) }
-        ensures term { (u : Family) → IsRead self.now.nodes.items self.now.links u → IfOk result (λ form. (later : List ℕ) → term_value form ≡ apply_term (by_place (numbers names.new.keys ++ later)) (u space var)) }
+        requires arena { IsArena self.now.nodes self.now.links }
+        requires solution { IsSolved self.now.nodes self.now.links }
+        ensures names { (u : Family) → IsRead self.now.nodes self.now.links u → OnOk result (numbers names.new.keys ≡ first_ones (numbers names.old.keys) (term_variables (u space var))) }
+        ensures term { (u : Family) → IsRead self.now.nodes self.now.links u → IfOk result (λ form. (later : List ℕ) → term_value form ≡ apply_term (by_place (numbers names.new.keys ++ later)) (u space var)) }
     {
-        match self.node_of(space, var) {
+        match self.nodes.find(space, var) {
             Some(x) => self.write_node(alloc, names, x),
             None => Ok(Term::Var(number(names, space, var)?)),
         }
@@ -111,10 +111,10 @@ impl Arena {
         space: u32,
         term: &Term,
     ) -> Result<Term, AllocError>
-        requires arena { IsArena self.now.nodes.items self.now.links }
-        requires solution { IsSolved self.now.nodes.items self.now.links }
-        ensures names { (u : Family) → IsRead self.now.nodes.items self.now.links u → OnOk result (numbers names.new.keys ≡ first_ones (numbers names.old.keys) (term_variables (apply_term (u space) (term_value term.now)))) }
-        ensures term { (u : Family) → IsRead self.now.nodes.items self.now.links u → IfOk result (λ form. (later : List ℕ) → term_value form ≡ apply_term (by_place (numbers names.new.keys ++ later)) (apply_term (u space) (term_value term.now))) }
+        requires arena { IsArena self.now.nodes self.now.links }
+        requires solution { IsSolved self.now.nodes self.now.links }
+        ensures names { (u : Family) → IsRead self.now.nodes self.now.links u → OnOk result (numbers names.new.keys ≡ first_ones (numbers names.old.keys) (term_variables (apply_term (u space) (term_value term.now)))) }
+        ensures term { (u : Family) → IsRead self.now.nodes self.now.links u → IfOk result (λ form. (later : List ℕ) → term_value form ≡ apply_term (by_place (numbers names.new.keys ++ later)) (apply_term (u space) (term_value term.now))) }
     {
         match term {
             Term::Var(x) => self.write_variable(alloc, names, space, *x),
@@ -133,10 +133,10 @@ impl Arena {
         space: u32,
         terms: &Terms,
     ) -> Result<Terms, AllocError>
-        requires arena { IsArena self.now.nodes.items self.now.links }
-        requires solution { IsSolved self.now.nodes.items self.now.links }
-        ensures names { (u : Family) → IsRead self.now.nodes.items self.now.links u → OnOk result (numbers names.new.keys ≡ first_ones (numbers names.old.keys) (variables_of (apply_arguments (u space) (arguments_of terms.now.items)))) }
-        ensures terms { (u : Family) → IsRead self.now.nodes.items self.now.links u → IfOk result (λ form. (later : List ℕ) → arguments_of form.items ≡ apply_arguments (by_place (numbers names.new.keys ++ later)) (apply_arguments (u space) (arguments_of terms.now.items))) }
+        requires arena { IsArena self.now.nodes self.now.links }
+        requires solution { IsSolved self.now.nodes self.now.links }
+        ensures names { (u : Family) → IsRead self.now.nodes self.now.links u → OnOk result (numbers names.new.keys ≡ first_ones (numbers names.old.keys) (variables_of (apply_arguments (u space) (arguments_of terms.now.items)))) }
+        ensures terms { (u : Family) → IsRead self.now.nodes self.now.links u → IfOk result (λ form. (later : List ℕ) → arguments_of form.items ≡ apply_arguments (by_place (numbers names.new.keys ++ later)) (apply_arguments (u space) (arguments_of terms.now.items))) }
     {
         let mut made = Terms::new(alloc);
         for k in 0..terms.len() {
@@ -158,10 +158,10 @@ impl Arena {
         space: u32,
         atom: &Atom,
     ) -> Result<Atom, AllocError>
-        requires arena { IsArena self.now.nodes.items self.now.links }
-        requires solution { IsSolved self.now.nodes.items self.now.links }
+        requires arena { IsArena self.now.nodes self.now.links }
+        requires solution { IsSolved self.now.nodes self.now.links }
         requires first { names.old.keys ≡ [] }
-        ensures { IfOk result (λ form. (u : Family) → IsRead self.now.nodes.items self.now.links u → form ≡ canonical_atom (apply_atom (u space) atom.now)) }
+        ensures { IfOk result (λ form. (u : Family) → IsRead self.now.nodes self.now.links u → form ≡ canonical_atom (apply_atom (u space) atom.now)) }
     {
         Ok(Atom {
             pred: atom.pred,
@@ -176,9 +176,9 @@ impl Arena {
         space: u32,
         lit: &Literal,
     ) -> Result<Literal, AllocError>
-        requires arena { IsArena self.now.nodes.items self.now.links }
-        requires solution { IsSolved self.now.nodes.items self.now.links }
-        ensures { IfOk result (λ form. (u : Family) → IsRead self.now.nodes.items self.now.links u → form ≡ canonical_literal (apply_literal (u space) lit.now)) }
+        requires arena { IsArena self.now.nodes self.now.links }
+        requires solution { IsSolved self.now.nodes self.now.links }
+        ensures { IfOk result (λ form. (u : Family) → IsRead self.now.nodes self.now.links u → form ≡ canonical_literal (apply_literal (u space) lit.now)) }
     {
         let mut names = IndexSet::new(alloc);
         Ok(Literal {

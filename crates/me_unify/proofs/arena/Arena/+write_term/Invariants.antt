@@ -15,8 +15,8 @@ decreases-write_terms l = 2 * heights (arguments_of l.terms.now.items) + 1
 
 abbrev pub invariant-write_terms-loop-k : goal.invariant-write_terms-loop-k
 invariant-write_terms-loop-k l = record {
-  names : (u : Family) → IsRead l.self.nodes.items l.self.links u
+  names : (u : Family) → IsRead l.self.nodes l.self.links u
       → first_ones (numbers l.initial.names.keys) (variables_of (arguments_of (map (apply_term (u l.space)) l.terms.items)))
       ≡ first_ones (numbers l.names.keys) (variables_of (arguments_of (drop l.k (map (apply_term (u l.space)) l.terms.items))));
-  made : (u : Family) → IsRead l.self.nodes.items l.self.links u → IsMade (numbers l.names.keys) l.made.items (map (apply_term (u l.space)) l.terms.items) l.k;
+  made : (u : Family) → IsRead l.self.nodes l.self.links u → IsMade (numbers l.names.keys) l.made.items (map (apply_term (u l.space)) l.terms.items) l.k;
 }
