@@ -1,12 +1,12 @@
 -- The equations of a clause's places, one place more.
-use Rattle.std.proofs.Common.{◌≡◌, ℕ, zero, suc, ◌+◌, ◌<◌, ◌≤◌, ◌↔◌, Bool, true, false, IsTrue, List, [], ◌∷◌, ◌++◌, length, drop, get_or, slice_get, Option, Some, None, refl, sym, subst, ap, ◌∙◌, append_assoc, arith}
-use Rattle.std.proofs.lemmas.List.{drop_more, drop_all, append-nil}
+use Rattle.std.proofs.Common.{◌≡◌, ℕ, ◌+◌, ◌<◌, List, [], ◌∷◌, ◌++◌, length, drop, slice_get, Option, Some, refl, sym, subst, ap, ◌∙◌, append_assoc, arith}
+use Rattle.std.proofs.lemmas.List.{drop_more}
 use Rattle.std.proofs.lemmas.Option.{slice_get_within, get_or_from_slice_get}
 use Rattle.me_terms.specs.Terms.{Var}
 use Rattle.me_terms.specs.Context.{Context}
 use Rattle.me_terms.specs.Positions.{entry_at}
 use Rattle.me_terms.specs.declared.atom.Literal.{Literal}
-use Rattle.me_unify.specs.Equations.{Equation, SolvesOne, SolvesAll, IsSolvable}
+use Rattle.me_unify.specs.Equations.{Equation, SolvesAll, IsSolvable}
 use Rattle.joint_unifiers.specs.ClauseEquations.{equations_at, equations_from}
 use Rattle.joint_unifiers.proofs.Bridge.{solves_first}
 

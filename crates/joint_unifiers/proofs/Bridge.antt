@@ -1,13 +1,12 @@
 -- The equations of a clause's places against its unifiers.
-use Rattle.std.proofs.Common.{◌≡◌, ℕ, zero, suc, ◌+◌, ◌<◌, ◌↔◌, List, [], ◌∷◌, ◌++◌, length, drop, get_or, slice_get, Option, Some, None, refl, sym, subst, ap, ◌∙◌, arith}
-use Rattle.std.proofs.lemmas.List.{get_or_append_left, get_or-append_right, length-append}
+use Rattle.std.proofs.Common.{◌≡◌, ℕ, zero, suc, ◌+◌, ◌↔◌, List, [], ◌∷◌, ◌++◌, slice_get, Option, Some, None, refl, subst, ap, arith}
+use Rattle.std.proofs.lemmas.List.{get_or_append_left, length-append}
 use Rattle.std.proofs.lemmas.List.Elements.{All-append, All-nil}
 use Rattle.std.proofs.lemmas.Option.{same_Some}
-use Rattle.me_terms.specs.Terms.{AtomValue}
-use Rattle.me_terms.specs.Substitutions.{Family, apply_atom}
+use Rattle.me_terms.specs.Substitutions.{Family}
 use Rattle.me_terms.specs.Values.{EntryValue}
 use Rattle.me_terms.specs.Context.{Context, StandsAt}
-use Rattle.me_terms.specs.Positions.{StandsAgainst, entry_at}
+use Rattle.me_terms.specs.Positions.{entry_at}
 use Rattle.me_terms.specs.Unifier.{IsSolvedBy, Solves, IsUnifier}
 use Rattle.me_terms.specs.declared.atom.Literal.{Literal}
 use Rattle.me_terms.specs.declared.atom.Pattern.{Pattern}

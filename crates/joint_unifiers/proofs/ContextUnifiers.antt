@@ -1,5 +1,5 @@
 -- Context unifiers as solutions of a clause's equations.
-use Rattle.std.proofs.Common.{◌≡◌, ℕ, ◌↔◌, List, Option, sym, subst, ◌∙◌}
+use Rattle.std.proofs.Common.{◌≡◌, ℕ, ◌↔◌, List, Option, sym, subst}
 use Rattle.me_terms.specs.Substitutions.{Family}
 use Rattle.me_terms.specs.Context.{Context}
 use Rattle.me_terms.specs.Positions.{positions_of, AreOpposite}

@@ -1,17 +1,10 @@
 -- Common instances of two atoms as solutions of their equation.
-use Rattle.std.proofs.Common.{◌≡◌, ℕ, zero, suc, ◌<◌, ◌↔◌, Bool, true, false, not, IsTrue, List, [], ◌∷◌, ◌++◌, slice_get, Some, refl, sym, subst, ap, ◌∙◌, arith}
-use Rattle.std.proofs.lemmas.Option.{same_Some}
+use Rattle.std.proofs.Common.{zero, suc, ◌↔◌, [], ◌∷◌, ◌++◌, arith}
 use Rattle.me_terms.specs.Terms.{AtomValue}
 use Rattle.me_terms.specs.Substitutions.{Substitution, Family}
-use Rattle.me_terms.specs.Values.{EntryValue}
-use Rattle.me_terms.specs.Context.{Context, StandsAt, IsVisible}
-use Rattle.me_terms.specs.Contradictory.{Unifiable, Clash}
-use Rattle.me_terms.specs.declared.entry.Kind.{Kind}
-use Rattle.me_terms.specs.declared.atom.Literal.{Literal}
-use Rattle.me_terms.specs.declared.atom.Pattern.{Pattern}
-use Rattle.me_terms.specs.declared.atom.Pattern.TheVariants.{Any, Of}
-use Rattle.me_unify.specs.Equations.{Equation, equation, IsSolvable}
-use Rattle.joint_unifiers.specs.Contradiction.{ContradictsAt}
+use Rattle.me_terms.specs.Contradictory.{Unifiable}
+use Rattle.me_terms.specs.declared.atom.Pattern.TheVariants.{Of}
+use Rattle.me_unify.specs.Equations.{equation, IsSolvable}
 use Rattle.joint_unifiers.proofs.Bridge.{solves_one}
 
 -- a family with these two substitutions

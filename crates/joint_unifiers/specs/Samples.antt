@@ -1,6 +1,6 @@
 -- Atoms of the tests.
 use Rattle.std.specs.Prelude.{ℕ, Bool, true, false}
-use Rattle.me_terms.specs.Terms.{TermValue, Var, App, Arguments, Nil, Cons, AtomValue}
+use Rattle.me_terms.specs.Terms.{Var, App, Nil, Cons, AtomValue}
 
 -- p(h(X,Y)) where it is wide, and else p(X)
 abbrev pub sample : Bool → ℕ → ℕ → AtomValue

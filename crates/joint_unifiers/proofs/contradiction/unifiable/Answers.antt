@@ -1,8 +1,7 @@
-use Rattle.std.proofs.Common.{◌↔◌, IsTrue, Bool, [], ◌∷◌, ◌++◌, subst}
-use Rattle.std.proofs.Common.{List}
+use Rattle.std.proofs.Common.{◌↔◌, IsTrue, Bool, [], ◌∷◌, ◌++◌}
 use Rattle.me_terms.specs.Contradictory.{Unifiable}
 use Rattle.me_terms.specs.declared.atom.Pattern.TheVariants.{Of}
-use Rattle.me_unify.specs.Equations.{Equation, equation, IsSolvable}
+use Rattle.me_unify.specs.Equations.{equation, IsSolvable}
 use Rattle.me_unify.proofs.Forest.{if_ok_map}
 use Rattle.joint_unifiers.proofs.Contradictions.{unifiable_iff}
 use Rattle.joint_unifiers.proofs.contradiction.unifiable.Goals as goal

@@ -1,6 +1,5 @@
-use Rattle.std.proofs.Common.{◌≡◌, ◌++◌, Bool, true, IsTrue, List, length, slice_get, Some, refl, sym, subst, arith}
+use Rattle.std.proofs.Common.{◌≡◌, true, IsTrue, length, slice_get, Some, refl}
 use Rattle.std.proofs.lemmas.Option.{slice_get_read}
-use Rattle.me_unify.specs.Equations.{Equation, IsSolvable}
 use Rattle.joint_unifiers.proofs.Adding.{added, refuted, none_solvable}
 use Rattle.joint_unifiers.proofs.equations.add_places.Goals as goal
 

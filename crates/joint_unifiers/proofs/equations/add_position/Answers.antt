@@ -1,4 +1,4 @@
-use Rattle.std.proofs.Common.{◌↔◌, ◌++◌, Bool, IsTrue, Option, subst}
+use Rattle.std.proofs.Common.{◌↔◌, ◌++◌, IsTrue, Option, subst}
 use Rattle.std.specs.Prelude.{IfOk}
 use Rattle.me_terms.specs.Values.{EntryValue}
 use Rattle.me_unify.specs.Equations.{IsSolvable}

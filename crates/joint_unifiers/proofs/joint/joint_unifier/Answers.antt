@@ -1,7 +1,6 @@
-use Rattle.std.proofs.Common.{◌≡◌, ◌↔◌, true, IsTrue, List, ap, sym, subst, ◌∙◌, refl}
+use Rattle.std.proofs.Common.{◌≡◌, ◌↔◌, true, IsTrue, List, ap, subst, ◌∙◌, refl}
 use Rattle.me_terms.specs.Positions.{positions_of}
 use Rattle.me_terms.specs.Values.{ClauseValue}
-use Rattle.me_terms.specs.Substitutions.{Family}
 use Rattle.me_terms.specs.declared.atom.Literal.{Literal}
 use Rattle.me_unify.specs.Equations.{Equation, IsSolvable, IsMostGeneral}
 use Rattle.joint_unifiers.specs.ClauseEquations.{clause_equations}

@@ -1,6 +1,5 @@
-use Rattle.std.proofs.Common.{◌≡◌, ℕ, ◌+◌, ◌*◌, ◌<◌, ◌≤◌, not, length, sym, ap, ◌∙◌, arith}
+use Rattle.std.proofs.Common.{ℕ, not, sym, ◌∙◌, arith}
 use Rattle.me_terms.specs.TermViews.{term_value}
-use Rattle.me_terms.specs.Terms.{height, heights, arguments_of}
 use Rattle.me_terms.specs.Remainder.{is_variable}
 use Rattle.me_terms.proofs.Numbered.{height_in}
 use Rattle.joint_unifiers.proofs.Remaining.{any_here, any_later, any_none}
