@@ -59,9 +59,7 @@ fn assert_by<V: View>(
         return Ok(None);
     }
     let tuple = tuple.again(alloc)?;
-    Ok(Some(Candidate::new(
-        literal, kind, weight, index, place, tuple,
-    )))
+    Ok(Some(Candidate::new(literal, kind, weight, index, place, tuple)))
 }
 
 /// The entry that the clause, which stands at place `index` of a problem, asserts by the literal of that
@@ -88,9 +86,7 @@ pub fn assert_before<V: View>(
     ensures none { IfOk result (λ r. IfNone r ((problem : ProblemValue) (e : EntryValue) → ClauseAt problem index clause.now → IsAssert problem bounds.now (V.context view.now) index place tuple.now.items e → ¬ ComesBefore e (option_copied best.entry))) }
 {
     match joint_unifier(alloc, clause, Some(place), tuple, view)? {
-        Some(unifier) => Ok(assert_by(
-            alloc, &unifier, index, place, view, bounds, best,
-        )?),
+        Some(unifier) => Ok(assert_by(alloc, &unifier, index, place, view, bounds, best)?),
         None => Ok(None),
     }
 }

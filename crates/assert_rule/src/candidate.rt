@@ -37,7 +37,14 @@ impl Model for Candidate {
 impl Candidate {
     /// The entry of the literal, which has that weight, by the clause at place `index` of the problem, a
     /// place in it, and the positions for its other places.
-    pub(crate) fn new(literal: Literal, kind: Kind, weight: u64, index: u32, place: u32, tuple: Tuple) -> Self
+    pub(crate) fn new(
+        literal: Literal,
+        kind: Kind,
+        weight: u64,
+        index: u32,
+        place: u32,
+        tuple: Tuple,
+    ) -> Self
         requires { weight ≡ literal_weight literal }
         ensures { result ≡ record { positive = literal.positive; atom = pattern.Of literal.atom; kind = kind; reason = pure.Asserted index place tuple.items } }
     {

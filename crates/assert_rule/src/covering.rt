@@ -50,7 +50,12 @@ fn is_covered<V: View>(view: &V, lit: &Literal, kind: Kind) -> bool
 }
 
 /// Whether the literal neither contradicts the context with that kind nor is there already.
-pub(crate) fn is_new<V: View>(alloc: Global, view: &V, lit: &Literal, kind: Kind) -> Result<bool, AllocError>
+pub(crate) fn is_new<V: View>(
+    alloc: Global,
+    view: &V,
+    lit: &Literal,
+    kind: Kind,
+) -> Result<bool, AllocError>
     ensures { IfOk result (λ answer. IsTrue answer ↔ IsNew (V.context view.now) lit.now kind) }
 {
     if is_contradictory(alloc, view, lit, kind)? {

@@ -11,3 +11,6 @@ mod ranks;
 
 pub use asserting::{assert_before, assert_of};
 pub use candidate::Candidate;
+
+#[cfg(test)]
+mod tests;

@@ -2,7 +2,6 @@
 use Rattle.std.proofs.Common.{◌≡◌, ℕ, suc, ◌+◌, ◌<◌, List, [], ◌∷◌, ◌++◌, ◌⊎◌, ◌↔◌, Bool, true, false, cond, length, slice_get, Option, Some, None, IsSome, IfSome, refl, sym, subst, ap, ◌∙◌, inl, inr, arith}
 use Rattle.std.specs.List.{Contains}
 use Rattle.me_terms.specs.Substitutions.{Family}
-use Rattle.me_terms.specs.Variables.{are_ground}
 use Rattle.me_terms.specs.Measures.{literal_weight, canonical_literal}
 use Rattle.me_terms.specs.Values.{ProblemValue, ClauseValue}
 use Rattle.me_terms.specs.Context.{Context}
@@ -12,7 +11,7 @@ use Rattle.me_terms.specs.Remainder.{remains_at, remainder_from, remainder}
 use Rattle.me_terms.specs.Productive.{IsProductiveUnifier}
 use Rattle.me_terms.specs.Fits.{Fits}
 use Rattle.me_terms.specs.Split.{IsSplit, split_kind}
-use Rattle.me_terms.specs.Order.{Precedes, split_key}
+use Rattle.me_terms.specs.Order.{Precedes}
 use Rattle.me_terms.specs.declared.bounds.Bounds.{Bounds}
 use Rattle.me_terms.specs.declared.entry.Kind.TheVariants.{Universal, Parametric}
 use Rattle.me_terms.specs.declared.atom.Literal.{Literal}
@@ -22,7 +21,7 @@ use Rattle.me_unify.specs.Equations.{IsMostGeneral}
 use Rattle.joint_unifiers.specs.ClauseUnifiers.{UnifierValue, IsUnifierOf}
 use Rattle.joint_unifiers.proofs.CanonicalMeasures.{canonical_weight, canonical_ground}
 use Rattle.joint_unifiers.proofs.Fitting.{canonical_fits, fits_canonical}
-use Rattle.split_rule.specs.SplitChoices.{ArePlaces, MaySplit, place_key, IsSplitChoice, IsChosen, IsRuleChoice, IsByRule, FollowsRule}
+use Rattle.split_rule.specs.SplitChoices.{ArePlaces, MaySplit, place_key, IsChosen, IsByRule, FollowsRule}
 use Rattle.split_rule.specs.declared.choice.SplitChoice.{SplitChoice}
 
 -- ---- a Split of the clause and the tuple, as one of the unifier's remainder

@@ -1,4 +1,4 @@
-use Rattle.std.proofs.Common.{◌≡◌, Bool, true, false, cond, slice_get, refl, sym, subst, ap, ◌∙◌}
+use Rattle.std.proofs.Common.{◌≡◌, Bool, true, cond, ap, ◌∙◌}
 use Rattle.me_terms.specs.Unifier.{unified}
 use Rattle.me_terms.specs.Fits.{Fits}
 use Rattle.me_terms.specs.declared.entry.Kind.TheVariants.{Universal, Parametric}

@@ -1,7 +1,6 @@
-use Rattle.std.proofs.Common.{◌≡◌, ℕ, List, [], ◌∷◌, ◌++◌, Option, Some, None, true, refl, sym, subst, ap, ◌∙◌}
-use Rattle.me_terms.specs.Substitutions.{Family}
+use Rattle.std.proofs.Common.{◌≡◌, Option, true, subst}
 use Rattle.split_rule.specs.declared.choice.SplitChoice.{SplitChoice}
-use Rattle.split_rule.specs.SplitChoices.{IsSplitChoice, IsChosen}
+use Rattle.split_rule.specs.SplitChoices.{IsChosen}
 use Rattle.split_rule.proofs.Choosing.{first_then_none, none_then_second, first_before, second_before}
 use Rattle.split_rule.proofs.split.first_of.Goals as goal
 

@@ -1,8 +1,6 @@
-use Rattle.std.proofs.Common.{◌≡◌, ◌+◌, ◌<◌, ◌≤◌, ℕ, List, [], ◌∷◌, ◌++◌, length, take, get_or, add-one, refl, sym, subst, ap, ◌∙◌, arith}
+use Rattle.std.proofs.Common.{◌≡◌, ℕ, List, [], ◌∷◌, take, get_or, sym, subst, ◌∙◌, arith}
 use Rattle.std.proofs.lemmas.List.{take_more, take_all}
-use Rattle.me_terms.specs.Substitutions.{Family}
-use Rattle.me_unify.specs.Equations.{IsMostGeneral}
-use Rattle.split_rule.specs.SplitChoices.{IsChosen, FollowsRule}
+use Rattle.split_rule.specs.SplitChoices.{IsChosen}
 use Rattle.split_rule.proofs.Choosing.{no_place}
 use Rattle.split_rule.proofs.Rule.{follows_rule}
 use Rattle.split_rule.proofs.split.split_of.Goals as goal
