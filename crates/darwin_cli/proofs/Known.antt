@@ -1,11 +1,13 @@
 -- What the search finds is over the problem's signature.
-use Rattle.std.proofs.Common.{◌≡◌, ℕ, zero, suc, ◌<◌, ◌⊎◌, inl, inr, true, false, List, [], ◌∷◌, ◌++◌, length, slice_get, Some, refl, subst, arith}
+use Rattle.std.proofs.Common.{◌≡◌, ℕ, zero, suc, ◌<◌, ◌⊎◌, inl, inr, true, false, List, [], ◌∷◌, ◌++◌, ◌+◌, length, slice_get, Some, refl, subst, ap, ◌∙◌, arith}
 use Rattle.std.specs.Prelude.{IsTrue}
 use Rattle.std.specs.List.{All, list_all}
 use Rattle.std.proofs.lemmas.Option.{same_Some}
 use Rattle.std.proofs.lemmas.List.Elements.{All-append}
 use Rattle.me_laws.proofs.Added.{add_old, add_cases}
 use Rattle.me_laws.proofs.Lists.{all_at, all_of}
+use Rattle.me_terms.specs.Terms.{TermValue, arguments_of}
+use Rattle.me_terms.specs.Variables.{count}
 use Rattle.me_terms.specs.Context.{Context, StandsAt, pseudo, IsAtomWith}
 use Rattle.me_terms.specs.Signatures.{is_known_atom}
 use Rattle.me_terms.specs.TermEqualityLaws.{both_parts}
@@ -56,3 +58,10 @@ known_added names context e known here = record {
   first = (known.first.0, add_old context e 0 (pseudo known.first.0) known.first.1);
   later = λ k f below at. old_or_new names context e known here k f below (add_cases context e k f at);
 }
+
+-- as many arguments as terms
+pub count_is : (ts : List TermValue) → count (arguments_of ts) ≡ length ts
+count_is [] = refl
+count_is (t ∷ ts) =
+    let step : 1 + length ts ≡ length (t ∷ ts) = omega arith in
+    ap (λ (n : ℕ). 1 + n) (count_is ts) ∙ step

@@ -1,29 +1,57 @@
 -- What the program owes to what it is given: which refusals have their cause, and which answers are true of the file.
-use Rattle.std.specs.Prelude.{◌≡◌, ◌⊎◌, ◌+◌, ◌<◌, ◌≤◌, ℕ, List, length, codes, Option, IfSome}
+use Rattle.std.specs.Prelude.{◌≡◌, ◌⊎◌, ◌+◌, ◌<◌, ◌≤◌, ℕ, List, length, Option, IfSome, Bool, not, eqb, IsTrue}
+use Rattle.std.specs.List.{Any, list_any, sum_by}
 use Rattle.std.specs.Global.{Global}
 use Rattle.std.specs.Io.KnownBytes.{Consumes, IsAtEnd, Appends}
 use Rattle.std.specs.declared.string.String.{String}
 use Rattle.me_io.specs.Source.{Rose}
-use Rattle.me_terms.specs.Values.{ProblemValue}
+use Rattle.me_terms.specs.Terms.{AtomValue}
+use Rattle.me_terms.specs.Variables.{count}
+use Rattle.me_terms.specs.Measures.{literals_weight}
+use Rattle.me_terms.specs.Values.{ClauseValue, ProblemValue}
 use Rattle.me_terms.specs.declared.answer.Answer.{Answer}
-use Rattle.tptp_cnf.specs.SmallFiles.{IsSmallFile}
+use Rattle.tptp_grammar.specs.declared.refusal.Refusal.TheVariants as file
+use Rattle.tptp_cnf.specs.Files.{IsFile}
+use Rattle.tptp_cnf.specs.Causes.{RefusedAt}
+use Rattle.tptp_cnf.specs.declared.error.CnfError.{CnfError}
+use Rattle.tptp_cnf.specs.declared.error.CnfError.TheVariants as error
 use Rattle.szs_print.specs.AnswerText.{IsAnswerText}
 use Rattle.szs_print.specs.Printable.{IsPrintable}
 use Rattle.szs_print.specs.RefusalText.{refusal_text}
 use Rattle.szs_print.specs.declared.refusal.Refusal.{Refusal}
 use Rattle.szs_print.specs.declared.refusal.Refusal.TheVariants.{Usage, NotYet, Syntax, Inappropriate, Limit, Length, Read, Memory}
+use Rattle.darwin_cli.specs.AcceptedWords.{AreAccepted, name_shown}
 
--- The name of the problem in what is written.
-abbrev pub problem_name : List ℕ
-problem_name = codes "stdin"
+-- The atom has arguments.
+abbrev pub takes_arguments : AtomValue → Bool
+takes_arguments a = not (eqb (count a.args) 0)
 
--- The program's name is the only word.
-abbrev pub AreAccepted : List (String Global) → Type 0
-AreAccepted words = length words ≡ 1
+-- An atom of the clause has arguments.
+abbrev pub HasArguments : ClauseValue → Type 0
+HasArguments clause = IsTrue (list_any (λ l. takes_arguments l.atom) clause.literals)
 
--- No problem is the meaning of the bytes.
-abbrev pub HasNoProblem : List ℕ → Type 0
-HasNoProblem bytes = (problem : ProblemValue) → ¬ IsSmallFile bytes problem
+-- The problem is none that is solved so far: an atom has arguments, there are more than 1,999 predicates, or the clauses weigh more than 10,000,000.
+abbrev pub NeedsMore : ProblemValue → Type 0
+NeedsMore problem =
+    Any HasArguments problem.clauses ⊎ (1999 < length problem.signature.predicates) ⊎ (10000000 < sum_by (λ clause. literals_weight clause.literals) problem.clauses)
+
+-- The bytes are refused for what stands in them.
+abbrev pub IsFileCause : List ℕ → Refusal → Type 0
+IsFileCause bytes Usage = ⊥
+IsFileCause bytes NotYet = (problem : ProblemValue) × IsFile bytes problem × NeedsMore problem
+IsFileCause bytes (Syntax at) = RefusedAt file.Syntax at bytes
+IsFileCause bytes (Inappropriate what at) = RefusedAt (file.Inappropriate what) at bytes
+IsFileCause bytes (Limit which at) = RefusedAt (file.Limit which) at bytes
+IsFileCause bytes Length = ⊥
+IsFileCause bytes Read = ⊥
+IsFileCause bytes Memory = ⊥
+
+-- The refusal by which an error of the reader is told.
+abbrev pub told_as : CnfError → Refusal
+told_as (error.Syntax at) = Syntax at
+told_as (error.Inappropriate what at) = Inappropriate what at
+told_as (error.Limit which at) = Limit which at
+told_as error.Memory = Memory
 
 -- The exit status of a refusal.
 abbrev pub status_of : Refusal → ℕ
@@ -51,13 +79,17 @@ module _ {S : Type 0} (left : S → Option (List ℕ)) (given : S → ℕ) (ende
     pub counted : given old + 67108864 < given new
     pub told : IfSome (left old) (λ bytes. 67108864 < length bytes)
 
+  -- The bytes of the source were read to their end, and are refused for what stands in them.
+  abbrev pub IsFileRefused : Refusal → Type 0
+  IsFileRefused refusal = AreAccepted words × ((bytes : List ℕ) × GaveAll bytes × IsFileCause bytes refusal)
+
   -- The refusal has its cause.
   abbrev pub IsCause : Refusal → Type 0
   IsCause Usage = ¬ AreAccepted words
-  IsCause NotYet = AreAccepted words × ((bytes : List ℕ) × GaveAll bytes × HasNoProblem bytes)
-  IsCause (Syntax at) = ⊥
-  IsCause (Inappropriate what at) = ⊥
-  IsCause (Limit which at) = ⊥
+  IsCause NotYet = IsFileRefused NotYet
+  IsCause (Syntax at) = IsFileRefused (Syntax at)
+  IsCause (Inappropriate what at) = IsFileRefused (Inappropriate what at)
+  IsCause (Limit which at) = IsFileRefused (Limit which at)
   IsCause Length = AreAccepted words × GaveTooMany
   IsCause Read = AreAccepted words × Rose (faults old) (faults new)
   IsCause Memory = AreAccepted words
@@ -69,15 +101,16 @@ module _ {S : Type 0} (left : S → Option (List ℕ)) (given : S → ℕ) (ende
     pub problem : ProblemValue
     pub answer : Answer
     pub all : GaveAll bytes
-    pub means : IsSmallFile bytes problem
+    pub means : IsFile bytes problem
+    pub solvable : ¬ NeedsMore problem
     pub known : IsPrintable problem answer
-    pub text_is : IsAnswerText problem_name problem answer text
+    pub text_is : IsAnswerText (name_shown words) problem answer text
 
   -- A refusal of this status has its cause, and its text was written to a sink, which held these bytes before and those after it.
   abbrev pub IsRefused : ℕ → (held held' : Option (List ℕ)) → Type 0
   IsRefused status held held' =
-      (refusal : Refusal) × (status ≡ status_of refusal) × IsCause refusal × Appends held held' (refusal_text problem_name refusal)
+      (refusal : Refusal) × (status ≡ status_of refusal) × IsCause refusal × Appends held held' (refusal_text (name_shown words) refusal)
 
   -- The text is due: that of an answer, or that of a refusal with its cause.
   abbrev pub IsDue : List ℕ → Type 0
-  IsDue text = IsAnswered text ⊎ ((refusal : Refusal) × IsCause refusal × (text ≡ refusal_text problem_name refusal))
+  IsDue text = IsAnswered text ⊎ ((refusal : Refusal) × IsCause refusal × (text ≡ refusal_text (name_shown words) refusal))

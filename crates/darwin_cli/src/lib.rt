@@ -6,6 +6,7 @@
 
 mod search;
 mod top;
+mod words;
 
 pub use top::run;
 

@@ -3,16 +3,18 @@
 //! It stands in for the prover of first-order clauses, and is kept plain. Each entry decides a predicate:
 //! a clause with only false literals closes the context, and a clause with an undecided positive literal
 //! beside false ones is split on.
-ghost use Rattle.std.specs.Prelude.{◌≡◌, ◌<◌, length, IsTrue, IfOk, IfSome, OnOk};
-ghost use Rattle.std.specs.List.{All, list_all};
+ghost use Rattle.std.specs.Prelude.{◌≡◌, ◌<◌, ◌↔◌, length, IsTrue, IfOk, IfSome, OnOk};
+ghost use Rattle.std.specs.List.{All, list_all, list_any, sum_by};
+ghost use Rattle.me_terms.specs.Measures.{capped, literals_weight};
 ghost use Rattle.me_terms.specs.Signatures.{is_known_atom};
 ghost use Rattle.me_terms.specs.Validity.{IsValid};
 ghost use Rattle.me_terms.specs.declared.atom.Pattern.TheVariants as pattern;
 ghost use Rattle.szs_print.specs.Printable.{IsPrintable, IsKnownInstance, IsKnownContext};
+ghost use Rattle.darwin_cli.specs.Outcome.{takes_arguments, NeedsMore};
 
 use me_terms::{
-    Again, Answer, Bound, Bounds, Clause, Entries, Entry, Instance, Instances, Kind, Literal,
-    Pattern, Problem, Reason,
+    Again, Answer, Atom, Bound, Bounds, Clause, Entries, Entry, Instance, Instances, Kind, Literal,
+    Pattern, Problem, Reason, weight_of,
 };
 use std::alloc::{AllocError, Global};
 
@@ -47,6 +49,65 @@ enum Step {
 struct Decision {
     at: Place,
     is_left: bool,
+}
+
+/// The greatest number of predicates that the search takes.
+const MOST_PREDICATES: u32 = 1_999;
+
+/// The greatest weight of all clauses that the search takes.
+const MOST_WEIGHT: u64 = 10_000_000;
+
+/// Whether the atom has arguments.
+fn takes_arguments(atom: &Atom) -> bool
+    ensures { result ≡ takes_arguments atom.now }
+{
+    !atom.args.is_empty()
+}
+
+/// Whether an atom of the clause has arguments.
+fn has_arguments(clause: &Clause) -> bool
+    ensures { result ≡ list_any (λ l. takes_arguments l.atom) clause.now.literals }
+{
+    clause
+        .literals
+        .as_slice()
+        .iter()
+        .any(|literal| takes_arguments(&literal.atom))
+}
+
+/// The sum of the weights of the literals, which stops at the greatest u64.
+fn weight_of_literals(literals: &[Literal]) -> u64
+    ensures { result ≡ capped (literals_weight literals.now) }
+{
+    let mut total = 0_u64;
+    for literal in literals {
+        total = total.saturating_add(weight_of(literal));
+    }
+    total
+}
+
+/// The sum of the weights of the clauses, which stops at the greatest u64.
+fn weight_of_clauses(clauses: &[Clause]) -> u64
+    ensures { result ≡ capped (sum_by (λ clause. literals_weight clause.literals) clauses.now) }
+{
+    let mut total = 0_u64;
+    for clause in clauses {
+        total = total.saturating_add(weight_of_literals(clause.literals.as_slice()));
+    }
+    total
+}
+
+/// Whether the problem is none that the search takes.
+pub fn needs_more(problem: &Problem) -> bool
+    ensures { IsTrue result ↔ NeedsMore problem.now }
+{
+    problem
+        .clauses
+        .as_slice()
+        .iter()
+        .any(|clause| has_arguments(clause))
+        || problem.signature.pred_count() > MOST_PREDICATES
+        || weight_of_clauses(problem.clauses.as_slice()) > MOST_WEIGHT
 }
 
 /// The answer to a problem whose atoms have no arguments.

@@ -20,11 +20,11 @@ fn source(alloc: Global, text: &str, piece: u64, fails: &[u64]) -> Result<MemSou
     Ok(MemSource::new(bytes, piece.max(1), fails))
 }
 
-/// The status and what was written for a file.
-fn ran(alloc: Global, text: &str) -> Result<(u8, Vec<u8>), Fail> {
+/// The status and what was written for a file, by a call with these words.
+fn ran(alloc: Global, list: &[&str], text: &str) -> Result<(u8, Vec<u8>), Fail> {
     let mut source = source(alloc, text, WHOLE, &[])?;
     let mut sink = MemSink::new(alloc, WHOLE, Vec::new(alloc));
-    let status = run(alloc, &words(alloc, &["darwin"])?, &mut source, &mut sink);
+    let status = run(alloc, &words(alloc, list)?, &mut source, &mut sink);
     let written = Vec::from_slice(alloc, sink.bytes())?;
     Ok((status, written))
 }
@@ -63,6 +63,18 @@ cnf(e1,plain,p,universal).
 % SZS output end Model for stdin
 ";
 
+const FALSE_ALONE: &str = "% SZS status Unsatisfiable for stdin
+% SZS output start Refutation for stdin
+cnf(i1,plain,$false,instance(1,e)).
+% SZS output end Refutation for stdin
+";
+
+const NAMED: &str = "% SZS status Satisfiable for x
+% SZS output start Model for x
+% default false
+% SZS output end Model for x
+";
+
 #[test]
 fn answers_are_written(rt: HostRuntime) -> Result<(), Fail> {
     let alloc = rt.alloc();
@@ -71,8 +83,13 @@ fn answers_are_written(rt: HostRuntime) -> Result<(), Fail> {
         ("", NO_CLAUSE),
         (FOUR, FOUR_REFUTED),
         ("cnf(c1,axiom,p|q).", CHOSEN),
+        ("cnf(e,axiom,$false).", FALSE_ALONE),
+        (
+            "cnf(c1,axiom,p|$true). cnf(c2,axiom,~$false). cnf(c3,axiom,p|$false).",
+            CHOSEN,
+        ),
     ] {
-        let (status, written) = ran(alloc, text)?;
+        let (status, written) = ran(alloc, &["darwin"], text)?;
         assert_eq!(rt; status, 0);
         assert_eq!(rt; written.as_slice(), expected.as_bytes());
     }
@@ -80,18 +97,70 @@ fn answers_are_written(rt: HostRuntime) -> Result<(), Fail> {
 }
 
 #[test]
-fn refusals_are_written(rt: HostRuntime) -> Result<(), Fail> {
+fn refusals_name_their_places(rt: HostRuntime) -> Result<(), Fail> {
     let alloc = rt.alloc();
-    let (status, written) = ran(alloc, "cnf(a,axiom,p(a)).")?;
-    let expected = "% SZS status Inappropriate for stdin\n% reason notyet\n";
-    assert_eq!(rt; status, 3);
-    assert_eq!(rt; written.as_slice(), expected.as_bytes());
-    let mut sink = MemSink::new(alloc, WHOLE, Vec::new(alloc));
-    let more = words(alloc, &["darwin", "x"])?;
-    let status = run(alloc, &more, &mut source(alloc, "", WHOLE, &[])?, &mut sink);
+    for (text, expected_status, expected) in [
+        (
+            "cnf(a,axiom,a = b).",
+            3,
+            "% SZS status Inappropriate for stdin\n% reason equality at 14\n",
+        ),
+        (
+            "cnf(a,axiom,X = a).",
+            3,
+            "% SZS status Inappropriate for stdin\n% reason equality at 12\n",
+        ),
+        (
+            "cnf(a,axiom,p(1)).",
+            3,
+            "% SZS status Inappropriate for stdin\n% reason number at 14\n",
+        ),
+        (
+            "cnf(c,conjecture,p).",
+            3,
+            "% SZS status Inappropriate for stdin\n% reason conjecture at 6\n",
+        ),
+        (
+            "include('a.ax').",
+            3,
+            "% SZS status Inappropriate for stdin\n% reason include at 0\n",
+        ),
+        (
+            "cnf(a,axiom,'p",
+            2,
+            "% SZS status SyntaxError for stdin\n% reason syntax at 12\n",
+        ),
+        (
+            "cnf(a,axiom,p(a)).",
+            3,
+            "% SZS status Inappropriate for stdin\n% reason notyet\n",
+        ),
+    ] {
+        let (status, written) = ran(alloc, &["darwin"], text)?;
+        assert_eq!(rt; status, expected_status);
+        assert_eq!(rt; written.as_slice(), expected.as_bytes());
+    }
+    Ok(())
+}
+
+#[test]
+fn words_may_name_the_problem(rt: HostRuntime) -> Result<(), Fail> {
+    let alloc = rt.alloc();
+    let (status, written) = ran(alloc, &["darwin", "--name", "x"], "")?;
+    assert_eq!(rt; status, 0);
+    assert_eq!(rt; written.as_slice(), NAMED.as_bytes());
+    Ok(())
+}
+
+#[test]
+fn other_words_are_refused(rt: HostRuntime) -> Result<(), Fail> {
+    let alloc = rt.alloc();
     let expected = "% SZS status UsageError for stdin\n% reason words\n";
-    assert_eq!(rt; status, 1);
-    assert_eq!(rt; sink.bytes().as_slice(), expected.as_bytes());
+    for option in ["--name=x", "--name", "x"] {
+        let (status, written) = ran(alloc, &["darwin", option], "")?;
+        assert_eq!(rt; status, 1);
+        assert_eq!(rt; written.as_slice(), expected.as_bytes());
+    }
     Ok(())
 }
 

@@ -2,7 +2,7 @@
 //!
 //! It takes everything from outside through its arguments, so what it does is known for every source and
 //! every sink. Each status but 7 comes for its cause alone.
-ghost use Rattle.std.specs.Prelude.{◌≡◌, ◌≢◌, ◌+◌, ◌<◌, ◌≤◌, ◌⊎◌, ℕ, List, length, take, OnOk, OnErr, Some, IfOk, IfErr, IsErrOf, IsErr};
+ghost use Rattle.std.specs.Prelude.{◌≡◌, ◌+◌, ◌<◌, ◌≤◌, ◌≢◌, ◌⊎◌, ℕ, List, length, OnOk, OnErr, Some, IfOk, IfErr, IsErrOf};
 ghost use Rattle.std.specs.Io.KnownBytes.{Appends};
 ghost use Rattle.me_io.specs.Source.{Rose};
 ghost use Rattle.me_io.specs.Sink.{AppendedFront};
@@ -10,20 +10,19 @@ ghost use Rattle.me_terms.specs.Validity.{IsValid};
 ghost use Rattle.me_terms.specs.Values.{ProblemValue};
 ghost use Rattle.me_terms.specs.declared.answer.Answer.{Answer};
 ghost use Rattle.szs_print.specs.AnswerText.{IsAnswerText};
-ghost use Rattle.tptp_cnf.specs.SmallFiles.{IsSmallFile};
-ghost use Rattle.szs_print.specs.Printable.{IsPrintable};
-ghost use Rattle.szs_print.specs.RefusalText.{refusal_text};
-ghost use Rattle.darwin_cli.specs.Outcome.{problem_name, AreAccepted, HasNoProblem, IsCause, IsAnswered, IsRefused, IsDue, status_of as status_number};
+ghost use Rattle.szs_print.specs.Printable.{IsName, IsPrintable};
+ghost use Rattle.szs_print.specs.declared.refusal.Refusal.{Refusal as RefusalValue};
+ghost use Rattle.tptp_cnf.specs.Files.{IsFile};
+ghost use Rattle.darwin_cli.specs.AcceptedWords.{AreAccepted};
+ghost use Rattle.darwin_cli.specs.Outcome.{NeedsMore, IsFileCause, IsCause, IsAnswered, IsRefused, IsDue, status_of as status_number, told_as};
 
-use crate::search::solve;
+use crate::search::{needs_more, solve};
+use crate::words::{name_of, shown_name};
 use me_io::{ReadError, Sink, Source, read_all, write_all};
 use me_terms::{Bounds, Problem, Text};
 use std::alloc::{AllocError, Global};
 use szs_print::{Refusal, print_answer, write_refusal};
 use tptp_cnf::{CnfError, read_problem};
-
-/// The name of the problem in what is written.
-const NAME: &[u8] = b"stdin";
 
 const BOUNDS: Bounds = Bounds {
     depth: 6,
@@ -34,17 +33,18 @@ const BOUNDS: Bounds = Bounds {
 
 /// Reads a problem from the source, solves it, and writes the answer or the refusal to the sink.
 ///
-/// `words` are the program's name and its arguments, of which there are none yet. The result is the exit
-/// status: 0 where an answer was written, 1 for words that are not accepted, 3 for a file that is not
-/// read yet, 4 for a file of more than 67,108,864 bytes, 5 for a fault of the source, 6 for a fault of
-/// the sink, and 7 for want of memory.
+/// `words` are the program's name and its arguments: none, or `--name` and the problem's name. The result
+/// is the exit status: 0 where an answer was written, 1 for words that are not accepted, 2 for a file
+/// that is refused by the grammar, 3 for one that lies outside of the profile or is not solved yet, 4 for
+/// one that passes a limit, 5 for a fault of the source, 6 for a fault of the sink, and 7 for want of
+/// memory.
 pub fn run<S: Source, K: Sink>(
     alloc: Global,
     words: &Vec<String>,
     source: &mut S,
     sink: &mut K,
 ) -> u8
-    ensures status { (result ≤ 7) × (result ≢ 2) }
+    ensures status { result ≤ 7 }
 
     // The whole text of an answer or of a refusal was written, and nothing else; or a front of it, where
     // the sink failed.
@@ -58,16 +58,16 @@ pub fn run<S: Source, K: Sink>(
     ensures unread { ¬ AreAccepted words.now.items → source.new ≡ source.old }
     ensures too_long { AreAccepted words.now.items → S.given source.old + 67108864 < S.given source.new → (result ≡ 4) ⊎ (result ≡ 6) }
     // Of sources that tell their bytes.
-    ensures not_yet { AreAccepted words.now.items → (bytes : List ℕ) → S.left source.old ≡ Some bytes → length bytes ≤ 67108864 → HasNoProblem bytes → (result ≡ 3) ⊎ (5 ≤ result) }
-    ensures small { AreAccepted words.now.items → (bytes : List ℕ) (problem : ProblemValue) → S.left source.old ≡ Some bytes → length bytes ≤ 67108864 → IsSmallFile bytes problem → (result ≡ 0) ⊎ (5 ≤ result) }
-    ensures complete { AreAccepted words.now.items → (bytes : List ℕ) (problem : ProblemValue) → S.left source.old ≡ Some bytes → length bytes ≤ 67108864 → IsSmallFile bytes problem → ¬ Rose (S.faults source.old) (S.faults source.new) → ¬ Rose (K.faults sink.old) (K.faults sink.new) → (result ≡ 0) ⊎ (result ≡ 7) }
+    ensures refused_file { AreAccepted words.now.items → (bytes : List ℕ) (refusal : RefusalValue) → S.left source.old ≡ Some bytes → length bytes ≤ 67108864 → IsFileCause bytes refusal → (result ≡ status_number refusal) ⊎ (5 ≤ result) }
+    ensures file { AreAccepted words.now.items → (bytes : List ℕ) (problem : ProblemValue) → S.left source.old ≡ Some bytes → length bytes ≤ 67108864 → IsFile bytes problem → ¬ NeedsMore problem → (result ≡ 0) ⊎ (5 ≤ result) }
+    ensures complete { AreAccepted words.now.items → (bytes : List ℕ) (problem : ProblemValue) → S.left source.old ≡ Some bytes → length bytes ≤ 67108864 → IsFile bytes problem → ¬ NeedsMore problem → ¬ Rose (S.faults source.old) (S.faults source.new) → ¬ Rose (K.faults sink.old) (K.faults sink.new) → (result ≡ 0) ⊎ (result ≡ 7) }
 {
     match answer(alloc, words, source) {
         Ok(text) => match write_all(sink, &text) {
             Ok(()) => 0,
             Err(_) => 6,
         },
-        Err(refusal) => match write_refusal(sink, NAME, &refusal) {
+        Err(refusal) => match write_refusal(sink, shown_name(words), &refusal) {
             Ok(()) => status_of(&refusal),
             Err(_) => 6,
         },
@@ -96,51 +96,66 @@ fn answer<S: Source>(alloc: Global, words: &Vec<String>, source: &mut S) -> Resu
     ensures unread { ¬ AreAccepted words.now.items → source.new ≡ source.old }
     ensures too_long { AreAccepted words.now.items → S.given source.old + 67108864 < S.given source.new → IsErrOf result Refusal.Length }
 {
-    if words.len() != 1 {
+    let Some(name) = name_of(words) else {
         return Err(Refusal::Usage);
-    }
+    };
     match read_all(alloc, source) {
-        Ok(bytes) => solved(alloc, &bytes),
+        Ok(bytes) => solved(alloc, name, &bytes),
         Err(ReadError::Fault) => Err(Refusal::Read),
         Err(ReadError::TooLong) => Err(Refusal::Length),
         Err(ReadError::Memory) => Err(Refusal::Memory),
     }
 }
 
-/// The text of the answer to the problem that the bytes mean.
-fn solved(alloc: Global, bytes: &[u8]) -> Result<Vec<u8>, Refusal>
-    requires { length bytes.now ≤ 67108864 }
-    ensures answered { IfOk result (λ text. (problem : ProblemValue) × (answer : Answer) × IsSmallFile bytes.now problem × IsPrintable problem answer × IsAnswerText problem_name problem answer text.items) }
-    ensures refused { IfErr result (λ refusal. (refusal ≡ Refusal.NotYet) ⊎ (refusal ≡ Refusal.Memory)) }
-    ensures not_yet { IsErrOf result Refusal.NotYet → HasNoProblem bytes.now }
+/// The text of the answer to the problem that the bytes mean, under that name.
+fn solved(alloc: Global, name: &[u8], bytes: &[u8]) -> Result<Vec<u8>, Refusal>
+    requires few { length bytes.now ≤ 67108864 }
+    requires name { IsName name.now }
+    ensures answered { IfOk result (λ text. (problem : ProblemValue) × (answer : Answer) × IsFile bytes.now problem × (¬ NeedsMore problem) × IsPrintable problem answer × IsAnswerText name.now problem answer text.items) }
+    ensures refused { IfErr result (λ refusal. (refusal ≡ Refusal.Memory) ⊎ IsFileCause bytes.now refusal) }
 {
     let problem = match read_problem(alloc, bytes) {
         Ok(problem) => problem,
-        Err(CnfError::NotYet) => return Err(Refusal::NotYet),
-        Err(CnfError::Memory) => return Err(Refusal::Memory),
+        Err(error) => return Err(refusal_of(error)),
     };
-    match text_of(alloc, &problem) {
+    if needs_more(&problem) {
+        return Err(Refusal::NotYet);
+    }
+    match text_of(alloc, name, &problem) {
         Ok(text) => Ok(text),
         Err(_) => Err(Refusal::Memory),
     }
 }
 
-/// The text of an answer to the problem.
-fn text_of(alloc: Global, problem: &Problem) -> Result<Vec<u8>, AllocError>
-    requires { IsValid problem.now }
-    ensures { IfOk result (λ text. (answer : Answer) × IsPrintable problem.now answer × IsAnswerText problem_name problem.now answer text.items) }
+/// Why a file was not read.
+fn refusal_of(error: CnfError) -> Refusal
+    ensures { result ≡ told_as error }
 {
-    let answer = solve(alloc, problem, &BOUNDS)?;
-    print_answer(alloc, &name(alloc)?, problem, &answer)
+    match error {
+        CnfError::Syntax { at } => Refusal::Syntax { at },
+        CnfError::Inappropriate { what, at } => Refusal::Inappropriate { what, at },
+        CnfError::Limit { which, at } => Refusal::Limit { which, at },
+        CnfError::Memory => Refusal::Memory,
+    }
 }
 
-/// The name of the problem.
-fn name(alloc: Global) -> Result<Text, AllocError>
-    ensures { IfOk result (λ name. name.items ≡ problem_name) }
+/// The text of an answer to the problem, under that name.
+fn text_of(alloc: Global, name: &[u8], problem: &Problem) -> Result<Vec<u8>, AllocError>
+    requires valid { IsValid problem.now }
+    requires name { IsName name.now }
+    ensures { IfOk result (λ text. (answer : Answer) × IsPrintable problem.now answer × IsAnswerText name.now problem.now answer text.items) }
 {
-    let mut name = Text::new(alloc);
-    for byte in NAME {
-        name.push(*byte).map_err(|_| AllocError)?;
+    let answer = solve(alloc, problem, &BOUNDS)?;
+    print_answer(alloc, &text_from(alloc, name)?, problem, &answer)
+}
+
+/// The bytes as a text of their own.
+fn text_from(alloc: Global, bytes: &[u8]) -> Result<Text, AllocError>
+    ensures { IfOk result (λ text. text.items ≡ bytes.now) }
+{
+    let mut text = Text::new(alloc);
+    for byte in bytes {
+        text.push(*byte).map_err(|_| AllocError)?;
     }
-    Ok(name)
+    Ok(text)
 }

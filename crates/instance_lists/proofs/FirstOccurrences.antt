@@ -6,7 +6,7 @@ use Rattle.std.proofs.lemmas.List.Sums.{sum_by-cons, sum_by-append}
 use Rattle.me_terms.specs.Measures.{literals_weight, list_weight}
 use Rattle.me_terms.specs.Values.{InstanceValue}
 use Rattle.me_terms.specs.FirstOccurrences.{same_instance, first_occurrences, joined}
-use Rattle.instance_lists.specs.InstanceLaws.{instance_sound}
+use Rattle.me_terms.specs.InstanceEqualityLaws.{instance_sound}
 
 -- ---- filters
 bool_cases : (b : Bool) → (b ≡ true) ⊎ (b ≡ false)

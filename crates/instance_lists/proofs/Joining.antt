@@ -5,7 +5,7 @@ use Rattle.std.proofs.lemmas.List.Sums.{sum_by-append}
 use Rattle.me_terms.specs.Values.{InstanceValue}
 use Rattle.me_terms.specs.Measures.{literals_weight, list_weight}
 use Rattle.me_terms.specs.FirstOccurrences.{same_instance, first_occurrences, joined}
-use Rattle.instance_lists.specs.InstanceLaws.{instance_laws}
+use Rattle.me_terms.specs.InstanceEqualityLaws.{instance_laws}
 use Rattle.instance_lists.specs.News.{stands_in, news, marked}
 use Rattle.instance_lists.proofs.FirstOccurrences.{others}
 

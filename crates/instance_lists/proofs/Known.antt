@@ -1,24 +1,16 @@
 -- The set of the instances that were seen.
-use Rattle.std.proofs.Common.{◌≡◌, ℕ, ◌+◌, ◌<◌, Bool, true, false, ◌||◌, cond, not, List, [], ◌∷◌, ◌++◌, length, take, drop, get_or, append_assoc, refl, sym, ap, ◌∙◌}
+use Rattle.std.proofs.Common.{◌≡◌, ℕ, ◌+◌, ◌<◌, Bool, true, false, ◌||◌, cond, not, List, [], ◌∷◌, ◌++◌, length, take, drop, get_or, append_assoc, refl, sym, subst, ap, ◌∙◌}
 use Rattle.std.specs.HashSet.{HashSet, contains_by, UpdatesBy}
 use Rattle.std.proofs.lemmas.List.{take_more, drop_more}
 use Rattle.std.proofs.lemmas.List.Folds.{list_any-append}
 use Rattle.me_terms.specs.Values.{InstanceValue}
 use Rattle.me_terms.specs.FirstOccurrences.{same_instance}
-use Rattle.instance_lists.specs.InstanceLaws.{instance_laws}
+use Rattle.me_terms.specs.InstanceEqualityLaws.{instance_laws}
 use Rattle.instance_lists.specs.News.{stands_in, news}
-use Rattle.instance_lists.specs.declared.key.Key.{Key}
 
-abbrev pub same_key : Key → Key → Bool
-same_key a b = same_instance a.instance.now b.instance.now
-
--- a key of the instance, wherever it stands
-abbrev key_of : InstanceValue → Key
-key_of i = record { instance = record { ref_ptr = (0, 0); now = i } }
-
--- the set has the keys of exactly these instances
-abbrev pub Knows : {S : Type 0} → HashSet Key S → List InstanceValue → Type 0
-Knows set list = (i : InstanceValue) → contains_by (λ (q : Key). same_instance i q.instance.now) set ≡ stands_in list i
+-- a set of keys that stand for instances has those of exactly these
+abbrev pub Knows : {K S : Type 0} → (K → InstanceValue) → HashSet K S → List InstanceValue → Type 0
+Knows of set list = (i : InstanceValue) → contains_by (λ q. same_instance i (of q)) set ≡ stands_in list i
 
 either : (a b : Bool) → cond a true b ≡ (b || (a || false))
 either true true = refl
@@ -26,11 +18,14 @@ either true false = refl
 either false true = refl
 either false false = refl
 
--- one instance more
-pub knows_more : {S : Type 0} (set next : HashSet Key S) (list : List InstanceValue) (i : InstanceValue) → UpdatesBy same_key (λ (q : Key). same_instance i q.instance.now) set next true → Knows set list → Knows next (list ++ i ∷ [])
-knows_more set next list i updates knows j =
+-- one instance more; each instance has a key
+pub knows_more : {K S : Type 0} (of : K → InstanceValue) (key : (i : InstanceValue) → (q : K) × (of q ≡ i)) (set next : HashSet K S) (list : List InstanceValue) (i : InstanceValue) → UpdatesBy (λ p q. same_instance (of p) (of q)) (λ q. same_instance i (of q)) set next true → Knows of set list → Knows of next (list ++ i ∷ [])
+knows_more {K} of key set next list i updates knows j =
     let turn : same_instance i j ≡ same_instance j i = instance_laws.symm i j in
-    updates.0 (key_of j)
+    let stands : (q : K) × (of q ≡ j) = key j in
+    let update : contains_by (λ q. same_instance j (of q)) next ≡ cond (same_instance i j) true (contains_by (λ q. same_instance j (of q)) set) =
+    subst (λ (z : InstanceValue). contains_by (λ q. same_instance z (of q)) next ≡ cond (same_instance i z) true (contains_by (λ q. same_instance z (of q)) set)) stands.1 (updates.0 stands.0) in
+    update
     ∙ ((λ n. cond (turn n) true (knows j n))
     ∙ (either (same_instance j i) (stands_in list j) ∙ sym (list_any-append (same_instance j) list (i ∷ []))))
 

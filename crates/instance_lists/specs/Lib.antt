@@ -1,3 +1,1 @@
-pub mod Fingerprints
-pub mod InstanceLaws
 pub mod News

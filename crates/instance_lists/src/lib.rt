@@ -5,8 +5,6 @@
 #![tactic(auto)]
 
 mod error;
-mod fingerprint;
-mod key;
 mod merging;
 mod new_instances;
 mod weight;

@@ -4,7 +4,6 @@
 ghost use Rattle.std.specs.Prelude.{◌≡◌, IfOk};
 ghost use Rattle.instance_lists.specs.News.{news, marked, stands_in};
 
-use crate::key::Key;
 use me_terms::{Instance, Instances};
 use std::alloc::{AllocError, Global};
 use std::collections::HashSet;
@@ -19,11 +18,11 @@ pub(crate) fn find_new(
 {
     let mut known = HashSet::with_capacity(alloc, list.len())?;
     for instance in list {
-        known.insert(Key { instance })?;
+        known.insert(instance)?;
     }
     let mut marks = Vec::new(alloc);
     for instance in more {
-        let is_new = known.insert(Key { instance })?;
+        let is_new = known.insert(instance)?;
         marks.push(is_new)?;
     }
     Ok(marks)

@@ -8,7 +8,9 @@ pub mod FirstOccurrences
 pub mod Fits
 pub mod GroundInstances
 pub mod Grown
+pub mod Hashed
 pub mod InducedModel
+pub mod InstanceEqualityLaws
 pub mod LabelEquality
 pub mod LabelEqualityLaws
 pub mod Labels

@@ -28,6 +28,26 @@ impl Model for Instance {
     ghost view = { λ i. record { clause = i.clause; literals = i.literals.items } };
 }
 
+impl PartialEq for Instance {
+    ghost use Rattle.std.specs.Cmp.{partial_equiv_from_equiv};
+    ghost use Rattle.me_terms.specs.FirstOccurrences.{same_instance};
+    ghost use Rattle.me_terms.specs.InstanceEqualityLaws.{instance_laws};
+
+    ghost eq = { same_instance };
+
+    ghost laws = { partial_equiv_from_equiv instance_laws };
+
+    fn eq(&self, other: &Self) -> bool {
+        self.clause == other.clause && self.literals == other.literals
+    }
+}
+
+impl Eq for Instance {
+    ghost use Rattle.me_terms.specs.InstanceEqualityLaws.{instance_laws};
+
+    ghost laws = { instance_laws };
+}
+
 pub type Instances = Sequence<Instance>;
 
 /// What is answered to a problem within bounds.

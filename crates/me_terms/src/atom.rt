@@ -53,7 +53,7 @@ pub enum Pattern {
 }
 
 /// An atom, or its negation.
-#[derive(PartialEq, Eq, Drop)]
+#[derive(PartialEq, Eq, Hash, Drop)]
 pub struct Literal {
     pub positive: bool,
     pub atom: Atom,

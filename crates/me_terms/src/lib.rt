@@ -12,6 +12,7 @@ mod bounds;
 mod canonical_form;
 mod clause;
 mod entry;
+mod hash;
 mod matching;
 mod measures;
 mod problem;

@@ -1,10 +1,9 @@
 -- The equations as they are added and taken back.
-use Rattle.std.proofs.Common.{◌≡◌, ℕ, zero, suc, ◌+◌, ◌<◌, ◌≤◌, ◌↔◌, List, [], ◌∷◌, ◌++◌, length, map, take, get_or, slice_get, Some, refl, ap, sym, subst, ◌∙◌, arith, inl, inr}
+use Rattle.std.proofs.Common.{◌≡◌, ℕ, zero, suc, ◌<◌, ◌≤◌, ◌↔◌, List, [], ◌∷◌, ◌++◌, length, map, take, slice_get, Some, refl, ap, sym, subst, ◌∙◌, arith, inl, inr}
 use Rattle.std.specs.Prelude.{◌⊎◌}
 use Rattle.std.proofs.lemmas.List.{get_or_append_left, get_or_push, length_push, length-map, length-take-le, map-append, take-append-le}
 use Rattle.std.proofs.lemmas.List.Elements.{All-push}
 use Rattle.std.proofs.lemmas.Option.{slice_get_within}
-use Rattle.std.proofs.lemmas.Bool.{cases_lt}
 use Rattle.me_terms.specs.Terms.{AtomValue, Var, App}
 use Rattle.me_terms.specs.Substitutions.{Substitution, Family, apply_term, apply_arguments, apply_atom}
 use Rattle.me_laws.proofs.Pairing.{first_of_pair, second_of_pair, apart}
@@ -15,10 +14,10 @@ use Rattle.me_unify.specs.declared.node.Node.{Node}
 use Rattle.me_unify.specs.declared.step.Step.{Step}
 use Rattle.me_unify.specs.declared.step.Sides.{Sides}
 use Rattle.me_unify.specs.Linked.{Colouring, Fits, Respects, IsLonger}
-use Rattle.me_unify.specs.Ordered.{colour, solved, HasOrder}
+use Rattle.me_unify.specs.Ordered.{colour, solved, HasOrder, IsSettled}
 use Rattle.me_unify.specs.Nodes.{IsArena, IsGrown}
 use Rattle.me_unify.specs.Equations.{Equation, SolvesOne, SolvesAll, IsSolvable, IsMostGeneral}
-use Rattle.me_unify.specs.Marks.{IsCut, IsMark, FitsFirst, IsStage, IsPosed, AreApart, IsBack, as_written, atom_of, equation_of, equations_of, IsWithin, AreBound}
+use Rattle.me_unify.specs.Marks.{IsCut, IsStage, IsPosed, AreApart, IsBack, as_written, atom_of, equation_of, equations_of, IsWithin, AreBound}
 use Rattle.me_unify.proofs.Forest.{respects_less}
 use Rattle.me_unify.proofs.Made.{atoms_same}
 use Rattle.me_unify.proofs.Written.{colour_fits, colour_grown}
@@ -93,23 +92,20 @@ pub says : (nodes : List Node) (l : Links) (steps : List Step) → AreBound node
 says nodes l steps b t h fits = b.last.same l (cut_itself l) t h (λ x v lt e. fits x v e)
 
 -- ---- the links have a most general unifier, and no solution where the last equation has none
+pub general_by : (nodes : List Node) (l : Links) (steps : List Step) → AreBound nodes l steps → (rank : ℕ → ℕ) (limit : ℕ) → IsSettled nodes l rank limit → IsMostGeneral (equations_of nodes steps) (family_of nodes l apart limit)
+general_by nodes l steps b rank limit settled = record {
+  solves = (says nodes l steps b (family_of nodes l apart limit) (solved nodes l apart limit) (settled_fits nodes l rank limit apart settled b.arena.single)).0 (settled_respects nodes l rank limit apart settled);
+  most_general = λ v s.
+      let r : Substitution = λ z. v (first_of_pair z) (second_of_pair z) in
+      let names : (space y : ℕ) → apply_term r (apart space y) ≡ v space y = λ space y. let p = pair_back space y in λ i. v (p.0 i) (p.1 i) in
+      let made = colour_fits nodes v b.arena.fit in
+      (r, settled_general nodes l rank limit apart settled v (colour nodes v) r made ((says nodes l steps b v (colour nodes v) made).1 s) names);
+}
+
 pub general_of : (nodes : List Node) (l : Links) (steps : List Step) → AreBound nodes l steps → (u : Family) × IsMostGeneral (equations_of nodes steps) u
 general_of nodes l steps b =
-    let fits = b.solution.1.1.0 in
-    let o = ordered_by nodes l b.arena b.solution.0 b.solution.1.0 fits b.solution.1.1.1 in
-    let rank = o.0 in
-    let limit = o.1.0 in
-    let settled = o.1.1 in (
-      family_of nodes l apart limit,
-      record {
-        solves = (says nodes l steps b (family_of nodes l apart limit) (solved nodes l apart limit) (settled_fits nodes l rank limit apart settled b.arena.single)).0 (settled_respects nodes l rank limit apart settled);
-        most_general = λ v s.
-            let r : Substitution = λ z. v (first_of_pair z) (second_of_pair z) in
-            let names : (space y : ℕ) → apply_term r (apart space y) ≡ v space y = λ space y. let p = pair_back space y in λ i. v (p.0 i) (p.1 i) in
-            let made = colour_fits nodes v b.arena.fit in
-            (r, settled_general nodes l rank limit apart settled v (colour nodes v) r made ((says nodes l steps b v (colour nodes v) made).1 s) names);
-      },
-    )
+    let o = ordered_by nodes l b.arena b.solution.0 b.solution.1.0 b.solution.1.1.0 b.solution.1.1.1 in
+    (family_of nodes l apart o.1.0, general_by nodes l steps b o.0 o.1.0 o.1.1)
 
 pub not_solvable : (nodes : List Node) (l : Links) (steps : List Step) (e : Equation) → AreBound nodes l steps → AreApart nodes l e → IsSolvable (equations_of nodes steps ++ e ∷ []) → ⊥
 not_solvable nodes l steps e b apart_ones s =

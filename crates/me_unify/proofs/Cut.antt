@@ -1,15 +1,15 @@
 -- Nodes and links that are taken away again.
-use Rattle.std.proofs.Common.{◌≡◌, ℕ, zero, suc, ◌+◌, ◌<◌, ◌≤◌, ◌≢◌, List, [], ◌∷◌, length, take, get_or, slice_get, Some, Option, eqb, cond, refl, ap, sym, subst, ◌∙◌, arith}
+use Rattle.std.proofs.Common.{◌≡◌, ℕ, zero, suc, ◌+◌, ◌<◌, ◌≤◌, List, [], ◌∷◌, length, take, get_or, slice_get, Some, eqb, cond, refl, ap, sym, ◌∙◌, arith}
 use Rattle.std.specs.List.{count_by}
 use Rattle.std.proofs.lemmas.List.{get_or-take, length-take-le}
 use Rattle.std.proofs.lemmas.List.Sums.{sum_by-cons}
 use Rattle.std.proofs.lemmas.Option.{slice_get_within, slice_get-get_or}
-use Rattle.std.proofs.lemmas.Bool.{cases_lt, cases_eq}
+use Rattle.std.proofs.lemmas.Bool.{cases_eq}
 use Rattle.std.proofs.Common.{inl, inr}
 use Rattle.me_unify.specs.declared.links.Links.{Links}
 use Rattle.me_unify.specs.declared.node.Node.{Node}
-use Rattle.me_unify.specs.declared.node.Node.TheVariants.{Var, App}
-use Rattle.me_unify.specs.Linked.{NONE, AreLinks, IsLinked, IsForest, IsLonger, AreClosed}
+use Rattle.me_unify.specs.declared.node.Node.TheVariants.{Var}
+use Rattle.me_unify.specs.Linked.{NONE, AreLinks, IsForest, IsLonger}
 use Rattle.me_unify.specs.Nodes.{IsArena, IsGrown}
 use Rattle.me_unify.specs.Marks.{IsCut, IsMark, IsBack}
 use Rattle.me_unify.proofs.Steps.{longer_twice, closed_kept, directed_back, longer_back, shorter_back}

@@ -1,13 +1,16 @@
 pub mod Bound
 pub mod Cut
 pub mod Forest
+pub mod Indexed
 pub mod Made
 pub mod Measures
 pub mod MoreNodes
 pub mod MostGeneral
 pub mod Posed
 pub mod Ranked
+pub mod Names
 pub mod Read
+pub mod ReadOff
 pub mod Solved
 pub mod Steps
 pub mod Visit

@@ -78,3 +78,11 @@ atoms_same a b u v l r = (
 
 pub fits_along : (a b : List Node) (t : Family) (h : Colouring) → a ≡ b → Fits a t h → Fits b t h
 fits_along a b t h e f = let P : List Node → Type 0 = λ z. Fits z t h in subst P e f
+
+-- ---- terms that are written with a substitution
+pub applied_step : (r : Substitution) (whole : Arguments) (made next xs : List TermValue) (k : ℕ) (x y : TermValue) → next ≡ made ++ y ∷ [] → slice_get xs k ≡ Some x → y ≡ apply_term r x
+    → whole ≡ join made (apply_arguments r (arguments_of (drop k xs))) → whole ≡ join next (apply_arguments r (arguments_of (drop (k + 1) xs)))
+applied_step r whole made next xs k x y is at same q = rw (is, join_push made y (apply_arguments r (arguments_of (drop (k + 1) xs))), same) (rw (drop_at xs k x at) at q)
+
+pub applied_end : (r : Substitution) (whole : Arguments) (made xs : List TermValue) (k : ℕ) → length xs ≤ k → whole ≡ join made (apply_arguments r (arguments_of (drop k xs))) → arguments_of made ≡ whole
+applied_end r whole made xs k past q = sym (join_end made) ∙ sym (rw (drop_all k xs past) at q)

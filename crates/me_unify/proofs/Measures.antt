@@ -1,16 +1,15 @@
 -- Sums and greatest depths of lists of terms.
-use Rattle.std.proofs.Common.{◌≡◌, ℕ, zero, suc, ◌+◌, ◌<◌, ◌≤◌, ◌≢◌, max, min, Bool, true, false, ◌&&◌, List, [], ◌∷◌, ◌++◌, length, map, take, set, get_or, slice_get, Some, refl, ap, sym, subst, ◌∙◌, arith, inl, inr}
+use Rattle.std.proofs.Common.{◌≡◌, ℕ, ◌+◌, ◌<◌, ◌≤◌, max, min, Bool, true, false, ◌&&◌, List, [], ◌∷◌, ◌++◌, length, map, take, set, get_or, slice_get, Some, refl, ap, sym, subst, ◌∙◌, arith, inl, inr}
 use Rattle.std.proofs.lemmas.List.{take_more, get_or-set_same, get_or-set_other, length-set}
 use Rattle.std.proofs.lemmas.Option.{slice_get_within, slice_get-get_or, get_or_from_slice_get}
-use Rattle.std.proofs.lemmas.Bool.{cases_lt, cases_eq}
+use Rattle.std.proofs.lemmas.Bool.{cases_eq}
 use Rattle.me_terms.specs.Terms as tree
 use Rattle.me_terms.specs.Terms.{TermValue, Arguments, Nil, Cons, arguments_of}
 use Rattle.me_terms.specs.Variables.{weight, weights, depth, depths, is_ground, are_ground}
-use Rattle.me_terms.specs.Measures.{capped}
 use Rattle.me_unify.specs.declared.links.Links.{Links}
 use Rattle.me_unify.specs.declared.node.Node.{Node}
 use Rattle.me_unify.specs.declared.measure.Measure.{Measure}
-use Rattle.me_unify.specs.Linked.{NONE, Colouring, coloured}
+use Rattle.me_unify.specs.Linked.{Colouring, coloured}
 use Rattle.me_unify.specs.Ordered.{IsSequence}
 use Rattle.me_unify.specs.Measured.{IsMeasure, AreMeasured, IsReading, IsHeld, IsHeldBelow}
 

@@ -1,9 +1,8 @@
 -- Settled links have a most general family, over every variable of every space.
-use Rattle.std.proofs.Common.{◌≡◌, ℕ, zero, suc, ◌<◌, List, [], ◌∷◌, length, Some, slice_get, ap, ◌∙◌, arith, inl, inr}
+use Rattle.std.proofs.Common.{◌≡◌, ℕ, zero, suc, ◌<◌, List, [], ◌∷◌, length, Some, slice_get, refl, ap, ◌∙◌, arith, inl, inr}
 use Rattle.std.specs.Prelude.{◌⊎◌}
 use Rattle.std.proofs.lemmas.Bool.{cases_eq}
 use Rattle.std.proofs.lemmas.Option.{slice_get_within}
-use Rattle.me_terms.specs.Terms as tree
 use Rattle.me_terms.specs.Terms.{TermValue}
 use Rattle.me_terms.specs.Substitutions.{Substitution, Family, apply_term}
 use Rattle.me_unify.specs.declared.links.Links.{Links}
@@ -12,7 +11,7 @@ use Rattle.me_unify.specs.declared.node.Node.TheVariants.{Var, App}
 use Rattle.me_unify.specs.Linked.{NONE, Colouring, Respects, Fits, IsMade}
 use Rattle.me_unify.specs.Nodes.{AreSingle}
 use Rattle.me_unify.specs.Ordered.{solved, IsSettled}
-use Rattle.me_unify.proofs.Solved.{settled_respects, settled_app, general}
+use Rattle.me_unify.proofs.Solved.{settled_app, general}
 
 is_var : (n : Node) (s v : ℕ) → (n ≡ Var s v) ⊎ (n ≡ Var s v → ⊥)
 is_var (App f args) s v = inr (λ e. let q : App f args ≡ Var s v = e in cc)
@@ -70,3 +69,13 @@ pub settled_general : (nodes : List Node) (l : Links) (rank : ℕ → ℕ) (limi
 unfolding family_of
 settled_general nodes l rank limit n o t h r fits same names s v =
     pick_keeps nodes n (solved nodes l n limit) h t r s v (found nodes s v) fits (names s v) (λ x w. general nodes l rank limit n o t h r fits same names limit x w (o.below x w))
+
+pick_none : (nodes : List Node) (n : Family) (h : Colouring) (s v : ℕ) (f : Found nodes s v) → ((x : ℕ) → slice_get nodes x ≡ Some (Var s v) → ⊥) → pick nodes n h s v f ≡ n s v
+unfolding pick
+pick_none nodes n h s v (inl p) none = absurd (none p.0 p.1)
+pick_none nodes n h s v (inr q) none = refl
+
+-- a variable that has no node keeps its name
+pub family_others : (nodes : List Node) (l : Links) (n : Family) (limit s v : ℕ) → ((x : ℕ) → slice_get nodes x ≡ Some (Var s v) → ⊥) → family_of nodes l n limit s v ≡ n s v
+unfolding family_of
+family_others nodes l n limit s v none = pick_none nodes n (solved nodes l n limit) s v (found nodes s v) none

@@ -1,19 +1,18 @@
 -- An equation whose atoms have nodes.
-use Rattle.std.proofs.Common.{◌≡◌, ℕ, ◌<◌, ◌↔◌, List, length, ap, sym, ◌∙◌}
+use Rattle.std.proofs.Common.{◌≡◌, ℕ, ◌<◌, ◌↔◌, List, length, sym}
 use Rattle.me_terms.specs.Terms.{AtomValue, App}
 use Rattle.me_terms.specs.Substitutions.{Family, apply_atom, apply_arguments}
 use Rattle.me_unify.specs.declared.links.Links.{Links}
 use Rattle.me_unify.specs.declared.node.Node.{Node}
-use Rattle.me_unify.specs.declared.step.Sides.{Sides}
 use Rattle.me_unify.specs.Linked.{Colouring, Fits, Respects, IsLonger, AreNodes}
 use Rattle.me_unify.specs.Ordered.{HasOrder, colour}
 use Rattle.me_unify.specs.Nodes.{IsArena, IsGrown}
-use Rattle.me_unify.specs.Equations.{Equation, equation}
+use Rattle.me_unify.specs.Equations.{equation}
 use Rattle.me_unify.specs.Marks.{IsPosed, AreApart}
 use Rattle.me_unify.proofs.MoreNodes.{same_links}
 use Rattle.me_unify.proofs.Forest.{respects_less}
 use Rattle.me_unify.proofs.Steps.{longer_twice}
-use Rattle.me_unify.proofs.Made.{atoms_same, fits_less}
+use Rattle.me_unify.proofs.Made.{atoms_same}
 use Rattle.me_unify.proofs.Written.{extended, colour_fits}
 
 -- a node is the atom under the family

@@ -1,8 +1,8 @@
 -- What is counted under one most general unifier is counted under each.
-use Rattle.std.proofs.Common.{◌≡◌, ℕ, ◌+◌, Bool, true, false, List, length, slice_get, Some, refl, ap, sym, subst, ◌∙◌, arith}
+use Rattle.std.proofs.Common.{◌≡◌, ℕ, Bool, true, false, List, refl, ap, sym, ◌∙◌}
 use Rattle.std.proofs.lemmas.Option.{slice_get_within}
 use Rattle.me_terms.specs.Terms.{AtomValue, Arguments}
-use Rattle.me_terms.specs.Substitutions.{Substitution, Family, apply_term, apply_arguments, apply_atom, followed_by}
+use Rattle.me_terms.specs.Substitutions.{Substitution, Family, apply_term, apply_arguments, apply_atom}
 use Rattle.me_terms.specs.Variables.{weights, depths, are_ground}
 use Rattle.me_laws.proofs.Pairing.{pair, first_of_pair, second_of_pair, apart}
 use Rattle.me_laws.proofs.Apart.{pair_back}
@@ -14,10 +14,10 @@ use Rattle.me_unify.specs.declared.node.Node.{Node}
 use Rattle.me_unify.specs.declared.node.Node.TheVariants.{Var, App}
 use Rattle.me_unify.specs.declared.step.Step.{Step}
 use Rattle.me_unify.specs.declared.measure.Measure.{Measure}
-use Rattle.me_unify.specs.Linked.{Colouring, Fits, Respects, IsLonger}
-use Rattle.me_unify.specs.Ordered.{of_node, colour, solved, HasOrder, IsSettled}
+use Rattle.me_unify.specs.Linked.{Colouring, Fits, Respects}
+use Rattle.me_unify.specs.Ordered.{of_node, colour, solved, IsSettled}
 use Rattle.me_unify.specs.Nodes.{IsArena, IsGrown}
-use Rattle.me_unify.specs.Equations.{Equation, SolvesAll, IsMostGeneral}
+use Rattle.me_unify.specs.Equations.{SolvesAll, IsMostGeneral}
 use Rattle.me_unify.specs.Marks.{equations_of, AreBound}
 use Rattle.me_unify.specs.Measured.{AreMeasured, IsReading}
 use Rattle.me_unify.proofs.MoreNodes.{same_links}
@@ -38,7 +38,7 @@ reading nodes l rank limit o = record {
 }
 
 -- an instance of an instance of atoms under families
-turned : (u v : Family) (r : Substitution) (space : ℕ) (a : AtomValue) → ((s x : ℕ) → apply_term r (u s x) ≡ v s x) → apply_atom r (apply_atom (u space) a) ≡ apply_atom (v space) a
+pub turned : (u v : Family) (r : Substitution) (space : ℕ) (a : AtomValue) → ((s x : ℕ) → apply_term r (u s x) ≡ v s x) → apply_atom r (apply_atom (u space) a) ≡ apply_atom (v space) a
 turned u v r space a e = sym (atom_followed (u space) r a) ∙ (λ i. apply_atom (λ x. e space x i) a)
 
 ground_by : (a b : AtomValue) (r q : Substitution) (s t : Bool) → apply_atom r a ≡ b → apply_atom q b ≡ a → are_ground a.args ≡ s → are_ground b.args ≡ t → s ≡ t

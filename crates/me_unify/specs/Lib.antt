@@ -1,4 +1,6 @@
 pub mod Equations
+pub mod Indexed
+pub mod Left
 pub mod Linked
 pub mod Marks
 pub mod Measured

@@ -3,14 +3,18 @@
 //! A contract sees the equations in the order in which they were added. They always have a solution, so
 //! that all of the unifier that does not depend on the names of its variables is determined by them.
 ghost use Rattle.std.specs.Prelude.{◌≡◌, ◌∷◌, [], ◌++◌, ◌≤◌, ◌↔◌, OnErr, IfOk, IsTrue, false, length, take};
-ghost use Rattle.me_terms.specs.Substitutions.{Family, apply_atom};
+ghost use Rattle.me_terms.specs.Substitutions.{Family, apply_atom, apply_literal};
+ghost use Rattle.me_terms.specs.Remainder.{is_variable};
+ghost use Rattle.me_terms.specs.Measures.{canonical_literal};
+ghost use Rattle.me_terms.specs.ListedInstances.{constant};
 ghost use Rattle.me_unify.specs.Measured.{IsAtomMeasure};
 ghost use Rattle.me_unify.specs.Equations.{equation, IsSolvable, IsMostGeneral};
 
 use crate::arena::Arena;
+use crate::constants::filled_literal;
 use crate::measure::Measure;
 use crate::step::Step;
-use me_terms::Atom;
+use me_terms::{Atom, Literal};
 use std::alloc::{AllocError, Global};
 use std::marker::Model;
 
@@ -32,9 +36,9 @@ impl Model for Bindings {
 
     ghost use Rattle.me_unify.specs.Marks.{equations_of, AreBound};
 
-    ghost view = { λ b. equations_of b.arena.nodes.items b.steps.items };
+    ghost view = { λ b. equations_of b.arena.nodes b.steps.items };
 
-    ghost invariant = { λ b. AreBound b.arena.nodes.items b.arena.links b.steps.items };
+    ghost invariant = { λ b. AreBound b.arena.nodes b.arena.links b.steps.items };
 }
 
 impl Bindings {
@@ -116,5 +120,28 @@ impl Bindings {
             depth: all.depth,
             ground: all.ground,
         })
+    }
+
+    /// Whether what a variable of a space stands for is still a variable. It takes no memory.
+    pub fn is_variable(&self, space: u32, x: u32) -> bool
+        ensures { (u : Family) → IsMostGeneral self.now u → result ≡ is_variable (u space x) }
+    {
+        self.arena.is_variable(space, x)
+    }
+
+    /// The canonical form of a literal with the variables of a space, under the unifier of the equations.
+    pub fn literal(&self, space: u32, lit: &Literal) -> Result<Literal, AllocError>
+        ensures form { IfOk result (λ m. (u : Family) → IsMostGeneral self.now u → m ≡ canonical_literal (apply_literal (u space) lit.now)) }
+    {
+        Ok(self.arena.write_literal(self.alloc, space, lit)?)
+    }
+
+    /// A literal with the variables of a space, under the unifier of the equations, with the constant `c0`
+    /// for each variable that is left.
+    pub fn grounded(&self, space: u32, lit: &Literal, c0: u32) -> Result<Literal, AllocError>
+        ensures instance { IfOk result (λ m. (u : Family) → IsMostGeneral self.now u → m ≡ apply_literal (λ x. constant c0) (apply_literal (u space) lit.now)) }
+    {
+        let form = self.literal(space, lit)?;
+        Ok(filled_literal(self.alloc, &form, c0)?)
     }
 }

@@ -7,12 +7,16 @@
 mod arena;
 mod bindings;
 mod closure;
+mod constants;
 mod equate;
 mod links;
 mod measure;
 mod node;
+mod node_list;
 mod order;
+mod reading;
 mod step;
+mod variable;
 
 pub use bindings::Bindings;
 pub use measure::Measure;

@@ -1,5 +1,5 @@
 use crate::Bindings;
-use me_terms::{Atom, Term, Terms};
+use me_terms::{Atom, Literal, Term, Terms};
 use std::alloc::Global;
 use std::test::Fail;
 
@@ -115,5 +115,84 @@ fn two_long_chains_are_joined(rt: HostRuntime) -> Result<(), Fail> {
     assert!(rt; chain(alloc, &mut bindings, 0, 500)?);
     assert!(rt; chain(alloc, &mut bindings, 1, 500)?);
     assert!(rt; same(alloc, &mut bindings, 0, Term::Var(0), 1, Term::Var(0))?);
+    Ok(())
+}
+
+/// The atom `p` of two terms.
+fn p(alloc: Global, first: Term, second: Term) -> Result<Atom, Fail> {
+    let mut args = Terms::new(alloc);
+    args.push(first).ok().ok_or("memory")?;
+    args.push(second).ok().ok_or("memory")?;
+    Ok(Atom { pred: 2, args })
+}
+
+/// The term `f` of one term.
+fn f(alloc: Global, term: Term) -> Result<Term, Fail> {
+    let mut args = Terms::new(alloc);
+    args.push(term).ok().ok_or("memory")?;
+    Ok(Term::App { f: 30, args })
+}
+
+fn negative(atom: Atom) -> Literal {
+    Literal {
+        positive: false,
+        atom,
+    }
+}
+
+/// `p(X,f(X))` and `p(Y,Y)` have no unifier.
+#[test]
+fn a_pair_that_would_be_infinite_has_no_unifier(rt: HostRuntime) -> Result<(), Fail> {
+    let alloc = rt.alloc();
+    let mut bindings = Bindings::new(alloc);
+    let left = p(alloc, Term::Var(0), f(alloc, Term::Var(0))?)?;
+    let right = p(alloc, Term::Var(0), Term::Var(0))?;
+    assert!(rt; !bindings.unify(0, &left, 1, &right)?);
+    Ok(())
+}
+
+/// `p(X,b)` and `p(a,Y)` are one at `p(a,b)`.
+#[test]
+fn a_pair_meets_at_its_instance(rt: HostRuntime) -> Result<(), Fail> {
+    let alloc = rt.alloc();
+    let mut bindings = Bindings::new(alloc);
+    let left = p(alloc, Term::Var(0), constant(alloc, 11))?;
+    let right = p(alloc, constant(alloc, 10), Term::Var(0))?;
+    assert!(rt; bindings.unify(0, &left, 1, &right)?);
+    let form = bindings.literal(0, &negative(left))?;
+    let both = p(alloc, constant(alloc, 10), constant(alloc, 11))?;
+    assert!(rt; !form.positive && form.atom == both);
+    Ok(())
+}
+
+/// `p(X,Y)` with `p(f(Z),V)` of another space: `X` is `f(Z)`, and `Y` and `V` are one variable.
+fn bound(alloc: Global) -> Result<Bindings, Fail> {
+    let mut bindings = Bindings::new(alloc);
+    let left = p(alloc, Term::Var(0), Term::Var(1))?;
+    let right = p(alloc, f(alloc, Term::Var(5))?, Term::Var(3))?;
+    if !bindings.unify(0, &left, 1, &right)? {
+        return Err("no unifier".into());
+    }
+    Ok(bindings)
+}
+
+#[test]
+fn what_is_left_is_numbered_by_first_occurrence(rt: HostRuntime) -> Result<(), Fail> {
+    let alloc = rt.alloc();
+    let bindings = bound(alloc)?;
+    let form = bindings.literal(0, &negative(p(alloc, Term::Var(1), Term::Var(0))?))?;
+    assert!(rt; form.atom == p(alloc, Term::Var(0), f(alloc, Term::Var(1))?)?);
+    assert!(rt; !bindings.is_variable(0, 0) && bindings.is_variable(0, 1));
+    assert!(rt; bindings.is_variable(0, 9));
+    Ok(())
+}
+
+#[test]
+fn what_is_left_becomes_the_constant(rt: HostRuntime) -> Result<(), Fail> {
+    let alloc = rt.alloc();
+    let bindings = bound(alloc)?;
+    let form = bindings.grounded(0, &negative(p(alloc, Term::Var(1), Term::Var(0))?), 12)?;
+    let instance = p(alloc, constant(alloc, 12), f(alloc, constant(alloc, 12))?)?;
+    assert!(rt; form.atom == instance);
     Ok(())
 }

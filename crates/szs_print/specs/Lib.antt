@@ -1,7 +1,5 @@
 pub mod AnswerText
-pub mod ClauseText
 pub mod Hiding
-pub mod LabelText
 pub mod ModelText
 pub mod Pieces
 pub mod Printable

@@ -6,7 +6,7 @@ use Rattle.me_terms.specs.Context.{Context, StandsAt, IsHidden, IsVisible}
 use Rattle.me_terms.specs.declared.entry.Kind.{Kind}
 use Rattle.me_terms.specs.declared.entry.Kind.TheVariants.{Universal, Parametric}
 use Rattle.me_terms.specs.declared.atom.Pattern.TheVariants.{Any, Of}
-use Rattle.szs_print.specs.ClauseText.{literal_text}
+use Rattle.cnf_text.specs.ClauseText.{literal_text}
 use Rattle.szs_print.specs.StatusText.{status_line, output_line}
 
 abbrev pub kind_text : Kind → List ℕ

@@ -1,9 +1,9 @@
 -- The text of a refusal.
 use Rattle.std.specs.Prelude.{ℕ, List, [], ◌++◌, codes, decimal, Option, Some, None}
-use Rattle.tptp_cnf.specs.declared.error.What.{What}
-use Rattle.tptp_cnf.specs.declared.error.What.TheVariants.{Equality, Language, Include, Number, Defined, Conjecture, Role}
-use Rattle.tptp_cnf.specs.declared.error.Which.{Which}
-use Rattle.tptp_cnf.specs.declared.error.Which.TheVariants.{Clauses, Literals, Variables, Arguments, Nesting}
+use Rattle.tptp_grammar.specs.declared.refusal.What.{What}
+use Rattle.tptp_grammar.specs.declared.refusal.What.TheVariants.{Equality, Language, Include, Number, Defined, Conjecture, Role}
+use Rattle.tptp_grammar.specs.declared.refusal.Which.{Which}
+use Rattle.tptp_grammar.specs.declared.refusal.Which.TheVariants.{Clauses, Literals, Variables, Arguments, Nesting}
 use Rattle.szs_print.specs.StatusText.{status_line, reason_line}
 use Rattle.szs_print.specs.declared.refusal.Refusal.{Refusal}
 use Rattle.szs_print.specs.declared.refusal.Refusal.TheVariants.{Usage, NotYet, Syntax, Inappropriate, Limit, Length, Read, Memory}

@@ -1,8 +1,8 @@
 -- The text of a refutation, which is a list of instances.
 use Rattle.std.specs.Prelude.{ℕ, ◌+◌, List, [], ◌∷◌, ◌++◌, codes, decimal, slice_get, Option, Some, None}
 use Rattle.me_terms.specs.Values.{ClauseValue, InstanceValue, ProblemValue}
-use Rattle.szs_print.specs.ClauseText.{clause_text}
-use Rattle.szs_print.specs.LabelText.{label_text}
+use Rattle.cnf_text.specs.ClauseText.{clause_text}
+use Rattle.cnf_text.specs.LabelText.{label_text}
 use Rattle.szs_print.specs.StatusText.{status_line, output_line}
 
 -- The number and the label of a clause in the file. What is no clause has no text.

@@ -5,13 +5,10 @@
 #![tactic(auto)]
 
 mod answer;
-mod clause;
-mod label;
 mod model;
 mod refusal;
 mod refutation;
 mod status;
-mod term;
 
 pub use answer::print_answer;
 pub use refusal::{Refusal, write_refusal};

@@ -8,9 +8,8 @@ ghost use Rattle.me_terms.specs.Values.{EntryValue};
 ghost use Rattle.szs_print.specs.Hiding.{Covers};
 ghost use Rattle.szs_print.specs.ModelText.{kind_text, literal_line, default_line, IsTextAt, IsTextOf, IsModelText};
 
-use crate::clause::push_signed;
-use crate::label::push_number;
 use crate::status::{push_output, push_status};
+use cnf_text::{push_number, push_signed};
 use me_terms::{Atom, Entry, Kind, Pattern, Signature, matches};
 use std::alloc::{AllocError, Global};
 

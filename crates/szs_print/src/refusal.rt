@@ -13,7 +13,7 @@ ghost use Rattle.szs_print.specs.RefusalText.{word_text, what_text, which_text, 
 
 use itoa::Buffer;
 use me_io::{Sink, WriteError, write_all};
-use tptp_cnf::{What, Which};
+use tptp_grammar::{What, Which};
 
 /// Why a problem was not answered. Each place is an offset in the file, from 0.
 #[derive(Clone, Copy, Debug, PartialEq, Eq)]

@@ -5,9 +5,8 @@
 ghost use Rattle.std.specs.Prelude.{◌≡◌, ◌+◌, ◌++◌, decimal, OnOk, IfOk};
 ghost use Rattle.szs_print.specs.RefutationText.{instance_line, instance_lines, refutation_text};
 
-use crate::clause::push_clause;
-use crate::label::{push_label, push_number};
 use crate::status::{push_output, push_status};
+use cnf_text::{push_clause, push_label, push_number};
 use me_terms::{Instance, Problem};
 use std::alloc::{AllocError, Global};
 

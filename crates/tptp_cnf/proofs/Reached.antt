@@ -1,157 +1,156 @@
--- How far a file is read.
-use Rattle.std.proofs.Common.{◌≡◌, ℕ, ◌+◌, ◌-◌, ◌<◌, ◌≤◌, true, List, [], ◌∷◌, ◌++◌, length, Option, Some, None, Result, Ok, Err, refl, sym, ap, subst, ◌∙◌, append_assoc, arith}
-use Rattle.std.proofs.lemmas.List.{length-append, append-nil}
-use Rattle.std.specs.List.{AllByRecursion}
-use Rattle.std.specs.Result.{OnOk, IfOk}
+-- What was read of the bytes as their tokens are taken one after another.
+use Rattle.std.proofs.Common.{◌≡◌, ℕ, Bool, true, false, List, [], ◌∷◌, ◌++◌, length, map, Option, Some, None, refl, sym, ap, subst, ◌∙◌, ◌⊎◌, inl, inr, true≢false}
+use Rattle.std.specs.Prelude.{IsTrue, ◌↔◌}
+use Rattle.std.proofs.lemmas.List.{map-append}
 use Rattle.me_terms.specs.Values.{ProblemValue}
-use Rattle.me_terms.specs.Validity.{IsValid}
-use Rattle.tptp_cnf.specs.Tokens.{TokenValue, Word, Open, Close, Comma, Dot, Bar, Tilde, Bad, spelling, is_blank, IsFirst, IsNext, Front, IsCut, without_places}
-use Rattle.tptp_cnf.specs.Grammar.{WrittenLiteral, Formula, IsFile, file_tokens}
-use Rattle.tptp_cnf.specs.Meaning.{file_predicates, with_symbols, problem_of}
-use Rattle.tptp_cnf.specs.SmallFiles.{IsSmall, IsSmallFile}
-use Rattle.tptp_cnf.specs.Machine.{empty_draft, Reading, start, step, run_on, finished}
+use Rattle.tptp_tokens.specs.Gaps.{IsGap}
+use Rattle.tptp_tokens.specs.Remainders.{Remainder}
+use Rattle.tptp_tokens.specs.Tokens.{PlacedToken, IsNext, IsCutFrom, IsCut}
+use Rattle.tptp_grammar.specs.Terminals.{Terminal, terminal, terminals}
+use Rattle.tptp_grammar.specs.Written.{WrittenFormula}
+use Rattle.tptp_grammar.specs.Printed.{Printed, printed, printed_terminals}
+use Rattle.tptp_grammar.specs.Files as grammar
+use Rattle.tptp_grammar.specs.Machine.{State, Between, step, run_on, part_at}
+use Rattle.tptp_grammar.specs.Readings.{Reading, start, Verdict, GoesOn, Refused, limited, judged, verdict, on_from, first_passed_at, counted}
+use Rattle.tptp_grammar.specs.declared.refusal.Refusal.{Refusal}
+use Rattle.tptp_grammar.specs.declared.refusal.Refusal.TheVariants as refusal
+use Rattle.tptp_grammar.specs.declared.refusal.Which.{Which}
+use Rattle.tptp_grammar.proofs.Runs.{Runs, file_runs}
+use Rattle.tptp_grammar.proofs.Judgements.{Reads, accepted, refused, cut_short}
+use Rattle.tptp_cnf.specs.Meaning.{problem_of}
+use Rattle.tptp_cnf.specs.Files.{IsFile}
+use Rattle.tptp_cnf.specs.Causes.{BeginsWith, IsRefusedToken, EndsEarly, RefusedAt, error_of, IsCause}
+use Rattle.tptp_cnf.specs.Rows.{Draft, empty_draft, fed, fed_from, feeds, finished}
+use Rattle.tptp_cnf.specs.Views.{TellsAt}
 use Rattle.tptp_cnf.specs.declared.error.CnfError.{CnfError}
-use Rattle.tptp_cnf.specs.declared.machine.Stage.{Stage}
-use Rattle.tptp_cnf.specs.declared.machine.Stage.TheVariants.{Between}
-use Rattle.tptp_cnf.proofs.Drafts.{IsDraft, draft_problem}
-use Rattle.tptp_cnf.proofs.Complete.{run-append, between, with_formulas, accepts}
-use Rattle.tptp_cnf.proofs.Printed.{Leads, leads_none, HasLowerWord, stepped, got, got_is}
-use Rattle.tptp_cnf.proofs.OneCut.{one_cut_lem, first_ones}
-use Rattle.tptp_cnf.proofs.Valid.{valid}
+use Rattle.tptp_cnf.specs.declared.error.CnfError.TheVariants as error
+use Rattle.tptp_cnf.proofs.Fed.{after_file, file_fed}
+use Rattle.tptp_cnf.proofs.Drafted.{finished_is}
 
--- The tokens before rest lead to the reading.
-pub record Reached (bytes rest : List ℕ) (r : Reading) : Type 0 where
-  pub tokens : List (ℕ × TokenValue)
-  pub front : Front 0 bytes tokens (length bytes - length rest) rest
-  pub within : length rest ≤ length bytes
-  pub run : run_on (Some start) (without_places tokens) ≡ Some r
-  pub leads : Leads (without_places tokens) r.stage r
+abbrev pub all_of : List ℕ → Remainder
+all_of bytes = record { at = 0; bytes = bytes }
 
-pub reached_none : (bytes : List ℕ) (r : Reading) → r ≡ start → Reached bytes bytes r
-reached_none bytes r e = subst (λ (x : Reading). Reached bytes bytes x) (sym e) (record { tokens = []; front = (omega arith, refl); within = omega arith; run = refl; leads = leads_none })
+-- These tokens were read, with this reading and this draft.
+pub record Reached (bytes : List ℕ) (left : Remainder) (r : Reading) (d : Draft) : Type 0 where
+  pub tokens : List PlacedToken
+  pub front : BeginsWith (all_of bytes) tokens left
+  pub reads : Reads (terminals tokens) r
+  pub run : run_on (Some Between) (terminals tokens) ≡ Some r.state
+  pub draft : d ≡ fed_from (Some Between) (terminals tokens) empty_draft
 
-places-append : (ts us : List (ℕ × TokenValue)) → without_places (ts ++ us) ≡ without_places ts ++ without_places us
-places-append [] us = refl
-places-append (t ∷ ts) us = ap (λ (x : List TokenValue). t.1 ∷ x) (places-append ts us)
+pub reached_none : (bytes : List ℕ) (left : Remainder) (r : Reading) (d : Draft) → left ≡ all_of bytes → r ≡ start → d ≡ empty_draft → Reached bytes left r d
+reached_none bytes left r d l s e = record {
+  tokens = [];
+  front = sym l;
+  reads = ap (λ (x : Reading). GoesOn x) (sym s);
+  run = ap (λ (x : Reading). Some x.state) (sym s);
+  draft = e;
+}
 
-front_more : (at : ℕ) (bytes : List ℕ) (ts : List (ℕ × TokenValue)) (end : ℕ) (rest blanks : List ℕ) (t : TokenValue) (after : List ℕ) → Front at bytes ts end rest → IsNext rest blanks t after
-    → Front at bytes (ts ++ (end + length blanks, t) ∷ []) (end + length blanks + length (spelling t)) after
-front_more at bytes [] end rest blanks t after f n = (blanks, after, subst (λ (x : List ℕ). IsNext x blanks t after) f.1 n, ap (λ (x : ℕ). x + length blanks) f.0, (refl, refl))
-front_more at bytes (p ∷ ts) end rest blanks t after f n = (f.0, f.1, f.2, f.3, front_more (p.0 + length (spelling p.1)) f.1 ts end rest blanks t after f.4 n)
+-- ---- one more token
 
--- a token takes at least a byte
-first_len : (t : TokenValue) (bytes rest : List ℕ) → IsFirst t bytes rest → (0 < length (spelling t)) × (length bytes ≡ length (spelling t) + length rest)
-first_len (Word []) bytes rest h = absurd h.0
-first_len (Word (b ∷ w)) bytes rest h = (omega arith, ap length h.1.parts ∙ length-append (b ∷ w) rest)
-first_len Open bytes rest h = (omega arith, omega (arith, ap length h))
-first_len Close bytes rest h = (omega arith, omega (arith, ap length h))
-first_len Comma bytes rest h = (omega arith, omega (arith, ap length h))
-first_len Dot bytes rest h = (omega arith, omega (arith, ap length h))
-first_len Bar bytes rest h = (omega arith, omega (arith, ap length h))
-first_len Tilde bytes rest h = (omega arith, omega (arith, ap length h))
-first_len (Bad b) bytes rest h = (omega arith, omega (arith, ap length h.0))
+pub front_more : (now : Remainder) (tokens : List PlacedToken) (left : Remainder) (token : PlacedToken) (next : Remainder) → BeginsWith now tokens left → IsNext left token next → BeginsWith now (tokens ++ token ∷ []) next
+front_more now [] left token next b n = (next, subst (λ (x : Remainder). IsNext x token next) (sym b) n, refl)
+front_more now (t ∷ tokens) left token next b n = (b.0, b.1, front_more b.0 tokens left token next b.2 n)
 
-next_len : (bytes blanks : List ℕ) (t : TokenValue) (after : List ℕ) → IsNext bytes blanks t after → (0 < length (spelling t)) × (length bytes ≡ length blanks + length (spelling t) + length after)
-next_len bytes blanks t after n =
-    let f = first_len t n.middle after n.first in
-    (f.0, omega (arith, f.1, ap length n.skipped.parts, length-append blanks n.middle))
+on_none : (v : Verdict) → on_from v [] ≡ v
+on_none (GoesOn r) = refl
+on_none (Refused x) = refl
 
-pub shorter : (bytes blanks : List ℕ) (t : TokenValue) (after : List ℕ) → IsNext bytes blanks t after → length after < length bytes
-shorter bytes blanks t after n = let f = next_len bytes blanks t after n in omega arith
+on_more : (v : Verdict) (ts : List Terminal) (t : Terminal) (r : Reading) → on_from v ts ≡ GoesOn r → on_from v (ts ++ t ∷ []) ≡ verdict r t
+on_more (Refused x) ts t r e = absurd cc
+on_more (GoesOn u) [] t r e = let same : u ≡ r = cc in on_none (verdict u t) ∙ ap (λ (x : Reading). verdict x t) same
+on_more (GoesOn u) (x ∷ ts) t r e = on_more (verdict u x) ts t r e
 
-lower_word : (t : TokenValue) (bytes rest : List ℕ) → IsFirst t bytes rest → HasLowerWord t
-lower_word (Word w) bytes rest h = record { begins = h.0; each = h.1.each }
-lower_word t bytes rest h = tt
+run_none : (o : Option State) → run_on o [] ≡ o
+run_none None = refl
+run_none (Some s) = refl
 
-pub reached_more : (bytes rest : List ℕ) (r : Reading) (blanks : List ℕ) (t : TokenValue) (after : List ℕ) (u : Reading) → Reached bytes rest r → IsNext rest blanks t after → step r t ≡ Some u → Reached bytes after u
-reached_more bytes rest r blanks t after u h n e =
-    let f = next_len rest blanks t after n in
-    let w = h.within in
-    let at : ℕ = length bytes - length rest + length blanks in
-    let end : at + length (spelling t) ≡ length bytes - length after = omega arith in
-    let more : without_places (h.tokens ++ (at, t) ∷ []) ≡ without_places h.tokens ++ t ∷ [] = places-append h.tokens ((at, t) ∷ []) in
+run_more : (o : Option State) (ts : List Terminal) (t : Terminal) (u : State) → run_on o ts ≡ Some u → run_on o (ts ++ t ∷ []) ≡ step u t
+run_more None ts t u e = absurd cc
+run_more (Some s) [] t u e = let same : s ≡ u = cc in run_none (step s t) ∙ ap (λ (x : State). step x t) same
+run_more (Some s) (x ∷ ts) t u e = run_more (step s x) ts t u e
+
+fed_none : (o : Option State) (d : Draft) → fed_from o [] d ≡ d
+fed_none None d = refl
+fed_none (Some s) d = refl
+
+fed_more : (o : Option State) (ts : List Terminal) (t : Terminal) (u : State) (d : Draft) → run_on o ts ≡ Some u → fed_from o (ts ++ t ∷ []) d ≡ fed (fed_from o ts d) (part_at u t) t
+fed_more None ts t u d e = absurd cc
+fed_more (Some s) [] t u d e = let same : s ≡ u = cc in fed_none (step s t) (fed d (part_at s t) t) ∙ ap (λ (x : State). fed d (part_at x t) t) same
+fed_more (Some s) (x ∷ ts) t u d e = fed_more (step s x) ts t u (fed d (part_at s x) x) e
+
+limited_goes : (o : Option Which) (u r : Reading) → limited o u ≡ GoesOn r → u ≡ r
+limited_goes None u r e = cc
+limited_goes (Some w) u r e = absurd cc
+
+judged_goes : (o : Option State) (r u : Reading) (t : Terminal) → judged o r t ≡ GoesOn u → o ≡ Some u.state
+judged_goes None r u t e = absurd cc
+judged_goes (Some s) r u t e = ap (λ (x : Reading). Some x.state) (limited_goes (first_passed_at r t) (record { state = s; tally = counted (part_at r.state t) t r.tally }) u e)
+
+pub reached_more : (bytes : List ℕ) (left next : Remainder) (token : PlacedToken) (r u : Reading) (d e : Draft) → Reached bytes left r d → IsNext left token next → verdict r (terminal token.token) ≡ GoesOn u → e ≡ fed d (part_at r.state (terminal token.token)) (terminal token.token) → Reached bytes next u e
+reached_more bytes left next token r u d e h n v f =
+    let t : Terminal = terminal token.token in
+    let ts : List Terminal = terminals h.tokens in
+    let all : terminals (h.tokens ++ token ∷ []) ≡ ts ++ t ∷ [] = map-append (λ placed. terminal placed.token) h.tokens (token ∷ []) in
     record {
-      tokens = h.tokens ++ (at, t) ∷ [];
-      front = subst (λ (x : ℕ). Front 0 bytes (h.tokens ++ (at, t) ∷ []) x after) end (front_more 0 bytes h.tokens (length bytes - length rest) rest blanks t after h.front n);
-      within = omega arith;
-      run = ap (run_on (Some start)) more ∙ run-append (Some start) (without_places h.tokens) (t ∷ []) ∙ ap (λ (o : Option Reading). run_on o (t ∷ [])) h.run ∙ ap (λ (o : Option Reading). run_on o []) e;
-      leads = subst (λ (x : List TokenValue). Leads x u.stage u) (sym more) (stepped r.stage r u t (without_places h.tokens) (lower_word t n.middle after n.first) e h.leads);
+      tokens = h.tokens ++ token ∷ [];
+      front = front_more (all_of bytes) h.tokens left token next h.front n;
+      reads = ap (on_from (GoesOn start)) all ∙ on_more (GoesOn start) ts t r h.reads ∙ v;
+      run = ap (run_on (Some Between)) all ∙ run_more (Some Between) ts t r.state h.run ∙ judged_goes (step r.state t) r u t v;
+      draft = f ∙ ap (λ (x : Draft). fed x (part_at r.state t) t) h.draft ∙ sym (fed_more (Some Between) ts t r.state empty_draft h.run) ∙ ap (λ (x : List Terminal). fed_from (Some Between) x empty_draft) (sym all);
     }
 
-pub few_predicates : (bytes rest : List ℕ) (r : Reading) → Reached bytes rest r → length r.draft.signature.predicates ≤ 1999
-few_predicates bytes rest r h = h.leads.fits.predicates
+-- ---- refusals
 
-pub no_functions : (bytes rest : List ℕ) (r : Reading) → Reached bytes rest r → r.draft.signature.functions ≡ []
-no_functions bytes rest r h = h.leads.draft.functions
+cause_of : (why : Refusal) (at : ℕ) (bytes : List ℕ) → RefusedAt why at bytes → IsCause bytes (error_of why at)
+cause_of refusal.Syntax at bytes h = h
+cause_of (refusal.Inappropriate w) at bytes h = h
+cause_of (refusal.Limit w) at bytes h = h
 
--- ---- what is refused is no small file
+by_token : (why : Refusal) (at : ℕ) (bytes : List ℕ) → IsRefusedToken why at bytes → RefusedAt why at bytes
+by_token refusal.Syntax at bytes h = inl h
+by_token (refusal.Inappropriate w) at bytes h = h
+by_token (refusal.Limit w) at bytes h = h
 
--- the machine stops at a token
-stops : (before : List TokenValue) (t : TokenValue) (more : List TokenValue) (r : Reading) (fs : List Formula) → run_on (Some start) before ≡ Some r → step r t ≡ None → IsFile (before ++ t ∷ more) fs → IsSmall fs → ⊥
-stops before t more r fs run none file small =
-    let all : run_on (Some start) (before ++ t ∷ more) ≡ Some (between (with_formulas empty_draft fs)) = accepts (before ++ t ∷ more) fs file small in
-    let one : run_on (Some start) (before ++ t ∷ more) ≡ run_on (step r t) more = run-append (Some start) before (t ∷ more) ∙ ap (λ (o : Option Reading). run_on o (t ∷ more)) run in
-    let stop : run_on (step r t) more ≡ None = ap (λ (o : Option Reading). run_on o more) none in
-    cc
+told : (bytes : List ℕ) (left next : Remainder) (token : PlacedToken) (r : Reading) (d : Draft) (why : Refusal) (e : CnfError) → Reached bytes left r d → IsNext left token next → verdict r (terminal token.token) ≡ Refused why → e ≡ error_of why token.at → IsCause bytes e
+told bytes left next token r d why e h n v same =
+    let at : IsRefusedToken why token.at bytes = record { before = h.tokens; token = token; left = left; rest = next; front = h.front; next = n; refused = refused why (terminals h.tokens) r (terminal token.token) h.reads v; place = refl } in
+    subst (IsCause bytes) (sym same) (cause_of why token.at bytes (by_token why token.at bytes at))
 
-pub stopped : (bytes rest : List ℕ) (r : Reading) (blanks : List ℕ) (t : TokenValue) (after : List ℕ) → Reached bytes rest r → IsNext rest blanks t after → step r t ≡ None → (problem : ProblemValue) → IsSmallFile bytes problem → ⊥
-stopped bytes rest r blanks t after h n none problem s =
-    let at : ℕ = length bytes - length rest + length blanks in
-    let front = front_more 0 bytes h.tokens (length bytes - length rest) rest blanks t after h.front n in
-    let first = first_ones 0 bytes (h.tokens ++ (at, t) ∷ []) s.tokens (at + length (spelling t)) s.cut.end after s.cut.rest front s.cut.front s.cut.blanks in
-    let same : without_places s.tokens ≡ without_places h.tokens ++ t ∷ without_places first.0 =
-    ap without_places (first.1 ∙ append_assoc h.tokens ((at, t) ∷ []) first.0) ∙ places-append h.tokens ((at, t) ∷ first.0) in
-    stops (without_places h.tokens) t (without_places first.0) r s.formulas h.run none (subst (λ (x : List TokenValue). IsFile x s.formulas) same s.file) s.small
+pub stopped : (bytes : List ℕ) (left next : Remainder) (token : PlacedToken) (r : Reading) (d : Draft) (e : CnfError) → Reached bytes left r d → IsNext left token next → TellsAt token.at (verdict r (terminal token.token)) e → IsCause bytes e
+stopped bytes left next token r d error.Memory h n t = tt
+stopped bytes left next token r d (error.Syntax at) h n t = told bytes left next token r d t.0 (error.Syntax at) h n t.1 t.2
+stopped bytes left next token r d (error.Inappropriate w at) h n t = told bytes left next token r d t.0 (error.Inappropriate w at) h n t.1 t.2
+stopped bytes left next token r d (error.Limit w at) h n t = told bytes left next token r d t.0 (error.Limit w at) h n t.1 t.2
 
-cut : (bytes rest : List ℕ) (r : Reading) (h : Reached bytes rest r) → AllByRecursion (λ b. is_blank b ≡ true) rest → IsCut bytes h.tokens
-cut bytes rest r h blanks = record { end = length bytes - length rest; rest = rest; front = h.front; blanks = blanks }
+-- ---- the end
 
-pub cut_short : (bytes rest : List ℕ) (r : Reading) → Reached bytes rest r → AllByRecursion (λ b. is_blank b ≡ true) rest → (r.stage ≡ Between → ⊥) → (problem : ProblemValue) → IsSmallFile bytes problem → ⊥
-cut_short bytes rest r h blanks g problem s =
-    let same : without_places s.tokens ≡ without_places h.tokens = ap without_places (one_cut_lem bytes s.tokens h.tokens s.cut (cut bytes rest r h blanks)) in
-    let last : Reading = between (with_formulas empty_draft s.formulas) in
-    let run : got r ≡ got last = sym h.run ∙ accepts (without_places h.tokens) s.formulas (subst (λ (x : List TokenValue). IsFile x s.formulas) same s.file) s.small in
-    g (ap (λ (x : Reading). x.stage) (got_is r last run))
+cut_of : (now : Remainder) (tokens : List PlacedToken) (left : Remainder) → BeginsWith now tokens left → IsGap left.bytes [] → IsCutFrom now tokens
+cut_of now [] left b g = subst (λ (x : Remainder). IsGap x.bytes []) (sym b) g
+cut_of now (t ∷ tokens) left b g = (b.0, b.1, cut_of b.0 tokens left b.2 g)
 
--- ---- what is read is a small file
+pub ended_early : (bytes : List ℕ) (left : Remainder) (r : Reading) (d : Draft) (at : ℕ) → Reached bytes left r d → IsGap left.bytes [] → (r.state ≡ Between → ⊥) → at ≡ length bytes → IsCause bytes (error.Syntax at)
+ended_early bytes left r d at h g b e = inr (record { tokens = h.tokens; cut = cut_of (all_of bytes) h.tokens left h.front g; short = cut_short (terminals h.tokens) r h.reads b; place = e })
 
--- the formulas that were read
-pub record Whole (bytes : List ℕ) (r : Reading) : Type 0 where
-  pub formulas : List Formula
-  pub file : IsSmallFile bytes (problem_of formulas)
-  pub valid : IsValid (problem_of formulas)
-  pub draft : finished r.draft ≡ problem_of formulas
+runs_fed : (ps : List Printed) (s u : State) (d : Draft) → Runs s ps u → fed_from (Some s) (printed_terminals ps) d ≡ feeds d ps
+runs_fed [] s u d h = refl
+runs_fed (p ∷ ps) s u d h =
+    ap (λ (o : Option State). fed_from o (printed_terminals ps) (fed d (part_at s p.terminal) p.terminal)) h.1.goes
+    ∙ runs_fed ps h.0 u (fed d (part_at s p.terminal) p.terminal) h.2
+    ∙ ap (λ x. feeds (fed d x p.terminal) ps) (sym h.1.part)
 
-ended : (ts : List TokenValue) (r : Reading) (l : Leads ts Between r) → IsFile ts l.done × IsSmall l.done × IsDraft l.done [] r.draft
-ended ts r l =
-    let d : IsDraft l.done [] r.draft = subst (λ (x : List WrittenLiteral). IsDraft l.done x r.draft) l.keeps l.draft in
-    let f = l.fits in
-    let few : IsSmall l.done = record {
-      predicates = subst (λ (n : ℕ). n ≤ 1999) (ap length (d.predicates ∙ ap (with_symbols []) (append-nil (file_predicates l.done)))) f.predicates;
-      literals = omega (arith, d.total);
-      each = f.each;
-      few = f.formulas;
-    } in
-    (record { each = l.each; text = l.text ∙ append-nil (file_tokens l.done) }, few, d)
+-- the problem that is read of the tokens of a file is the one that it means
+pub read_is : (ts : List Terminal) (file : List WrittenFormula) → grammar.IsFile ts file → finished (fed_from (Some Between) ts empty_draft) ≡ problem_of file
+read_is ts file f =
+    ap (λ (x : List Terminal). finished (fed_from (Some Between) x empty_draft)) f.written
+    ∙ ap finished (runs_fed (printed file) Between Between empty_draft (file_runs file) ∙ file_fed file empty_draft)
+    ∙ finished_is file
 
-pub whole : (bytes rest : List ℕ) (r : Reading) → Reached bytes rest r → AllByRecursion (λ b. is_blank b ≡ true) rest → r.stage ≡ Between → Whole bytes r
-whole bytes rest r h blanks g =
-    let l : Leads (without_places h.tokens) Between r = subst (λ (x : Stage). Leads (without_places h.tokens) x r) g h.leads in
-    let e = ended (without_places h.tokens) r l in
-    record {
-      formulas = l.done;
-      file = record { tokens = h.tokens; cut = cut bytes rest r h blanks; formulas = l.done; file = e.0; small = e.1; means = refl };
-      valid = valid l.done l.each e.1;
-      draft = draft_problem l.done r.draft e.2;
-    }
+pub means : (bytes : List ℕ) (left : Remainder) (r : Reading) (d : Draft) (problem : ProblemValue) → Reached bytes left r d → IsGap left.bytes [] → r.state ≡ Between → problem ≡ finished d → IsFile bytes problem
+means bytes left r d problem h g b e =
+    let f = accepted (terminals h.tokens) r h.reads b in
+    record { tokens = h.tokens; cut = cut_of (all_of bytes) h.tokens left h.front g; file = f.0; written = f.1; means = e ∙ ap finished h.draft ∙ read_is (terminals h.tokens) f.0 f.1 }
 
-pub means : (bytes rest : List ℕ) (r : Reading) (problem : ProblemValue) → Reached bytes rest r → AllByRecursion (λ b. is_blank b ≡ true) rest → r.stage ≡ Between → problem ≡ finished r.draft → IsSmallFile bytes problem × IsValid problem
-means bytes rest r problem h blanks g e =
-    let w = whole bytes rest r h blanks g in
-    let same : problem_of w.formulas ≡ problem = sym (e ∙ w.draft) in
-    (subst (λ (x : ProblemValue). IsSmallFile bytes x) same w.file, subst IsValid same w.valid)
-
--- The end of a file, as the machine's last call answers.
-pub found : (bytes rest : List ℕ) (r : Reading) (o : Result ProblemValue CnfError) → Reached bytes rest r → AllByRecursion (λ b. is_blank b ≡ true) rest → OnOk o (r.stage ≡ Between) → IfOk o (λ p. p ≡ finished r.draft) → IfOk o (IsSmallFile bytes) × IfOk o IsValid
-found bytes rest r (Ok p) h blanks g e = means bytes rest r p h blanks g e
-found bytes rest r (Err x) h blanks g e = (tt, tt)
+pub not_between : (b : Bool) (s : State) → (IsTrue b ↔ (s ≡ Between)) → b ≡ false → s ≡ Between → ⊥
+not_between b s h e k = true≢false (sym (h.1 k) ∙ e)

@@ -1,5 +1,6 @@
-pub mod Grammar
-pub mod Machine
 pub mod Meaning
-pub mod SmallFiles
-pub mod Tokens
+pub mod Files
+pub mod Causes
+pub mod Plain
+pub mod Rows
+pub mod Views

@@ -1,58 +1,181 @@
 -- What a file means as a problem.
-use Rattle.std.specs.Prelude.{ℕ, ◌+◌, List, [], ◌∷◌, ◌++◌, map, codes}
-use Rattle.me_terms.specs.Terms.{Nil}
+use Rattle.std.specs.Prelude.{ℕ, suc, ◌+◌, Bool, true, false, not, List, [], ◌∷◌, ◌++◌, eqb, codes, if◌then◌else◌}
+use Rattle.std.specs.List.{list_any, position_or_len, flat_map}
+use Rattle.std.specs.Str.{bytes_eq}
 use Rattle.me_terms.specs.Signatures.{with_symbol, number_of}
-use Rattle.me_terms.specs.Values.{LabelValue, SymbolValue, ClauseValue, ProblemValue}
+use Rattle.me_terms.specs.Terms.{TermValue, Var, App, Arguments, Nil, Cons}
+use Rattle.me_terms.specs.Values.{LabelValue, SymbolValue, SignatureValue, ClauseValue, ProblemValue}
 use Rattle.me_terms.specs.declared.atom.Literal.{Literal}
-use Rattle.me_terms.specs.declared.symbol.Form.TheVariants.{Word}
-use Rattle.tptp_cnf.specs.Grammar.{WrittenLiteral, Formula}
+use Rattle.me_terms.specs.declared.symbol.Form.TheVariants.{Word, Distinct as DistinctForm, Number}
+use Rattle.tptp_grammar.specs.Written.{Name, name_text, WrittenTerm, Variable, Distinct, Apply, WrittenTerms, NoTerms, OneMore, WrittenAtom, Truth, Predicate, Sign, Positive, Negative, NegativeInBrackets, WrittenLiteral, WrittenLabel, Named, Numbered, WrittenFormula}
+use Rattle.tptp_grammar.specs.Limits.{with_variables}
 
--- the label that a word is
-abbrev pub word_label : List ℕ → LabelValue
-word_label text = record { form = Word; text = text }
+-- ---- labels and symbols
 
--- The symbol of a word without arguments: a constant, or a predicate that is an atom by itself.
-abbrev pub word_symbol : List ℕ → SymbolValue
-word_symbol text = record { label = word_label text; arity = 0 }
+-- a lower word and a single quoted word with the same text are one label
+abbrev pub word : List ℕ → LabelValue
+word text = record { form = Word; text = text }
 
--- the predicates of the literals, as often as they stand
-abbrev pub literal_predicates : List WrittenLiteral → List SymbolValue
-literal_predicates [] = []
-literal_predicates (l ∷ ls) = word_symbol l.atom ∷ literal_predicates ls
+-- a distinct object, which is no word even with the same text
+abbrev pub distinct : List ℕ → LabelValue
+distinct text = record { form = DistinctForm; text = text }
 
--- the predicates of the formulas, as often as they stand
-abbrev pub file_predicates : List Formula → List SymbolValue
+abbrev pub label_of : WrittenLabel → LabelValue
+label_of (Named name) = word (name_text name)
+label_of (Numbered digits) = record { form = Number; text = digits }
+
+abbrev pub symbol : LabelValue → ℕ → SymbolValue
+symbol label arity = record { label = label; arity = arity }
+
+-- how many arguments
+abbrev pub count : WrittenTerms → ℕ
+count NoTerms = 0
+count (OneMore t ts) = suc (count ts)
+
+abbrev pub name_symbol : Name → WrittenTerms → SymbolValue
+name_symbol name ts = symbol (word (name_text name)) (count ts)
+
+abbrev pub is_constant : SymbolValue → Bool
+is_constant s = eqb s.arity 0
+
+-- ---- which literals and formulas are left out
+
+abbrev pub is_positive : Sign → Bool
+is_positive Positive = true
+is_positive Negative = false
+is_positive NegativeInBrackets = false
+
+-- whether both are true, or both are false
+abbrev pub same_truth : Bool → Bool → Bool
+same_truth true b = b
+same_truth false b = not b
+
+-- a literal with this atom and sign is $true or ~$false
+abbrev pub is_true_atom : Bool → WrittenAtom → Bool
+is_true_atom positive (Truth value) = same_truth positive value
+is_true_atom positive (Predicate name ts) = false
+
+abbrev pub is_true : WrittenLiteral → Bool
+is_true l = is_true_atom (is_positive l.sign) l.atom
+
+abbrev pub literals_of : WrittenFormula → List WrittenLiteral
+literals_of f = f.first ∷ f.others
+
+-- A formula with a literal $true or ~$false is left out whole.
+abbrev pub is_left_out : WrittenFormula → Bool
+is_left_out f = list_any is_true (literals_of f)
+
+-- ---- symbols and variables, as often as they stand, from left to right
+
+-- a function stands before its arguments
+abbrev mutual
+  pub term_functions : WrittenTerm → List SymbolValue
+  term_functions (Variable text) = []
+  term_functions (Distinct text) = symbol (distinct text) 0 ∷ []
+  term_functions (Apply name ts) = name_symbol name ts ∷ terms_functions ts
+
+  pub terms_functions : WrittenTerms → List SymbolValue
+  terms_functions NoTerms = []
+  terms_functions (OneMore t ts) = term_functions t ++ terms_functions ts
+
+abbrev mutual
+  pub term_variables : WrittenTerm → List (List ℕ)
+  term_variables (Variable text) = text ∷ []
+  term_variables (Distinct text) = []
+  term_variables (Apply name ts) = terms_variables ts
+
+  pub terms_variables : WrittenTerms → List (List ℕ)
+  terms_variables NoTerms = []
+  terms_variables (OneMore t ts) = term_variables t ++ terms_variables ts
+
+abbrev pub atom_predicates : WrittenAtom → List SymbolValue
+atom_predicates (Truth value) = []
+atom_predicates (Predicate name ts) = name_symbol name ts ∷ []
+
+abbrev pub atom_functions : WrittenAtom → List SymbolValue
+atom_functions (Truth value) = []
+atom_functions (Predicate name ts) = terms_functions ts
+
+abbrev pub atom_variables : WrittenAtom → List (List ℕ)
+atom_variables (Truth value) = []
+atom_variables (Predicate name ts) = terms_variables ts
+
+abbrev pub literals_predicates : List WrittenLiteral → List SymbolValue
+literals_predicates ls = flat_map (λ l. atom_predicates l.atom) ls
+
+abbrev pub literals_functions : List WrittenLiteral → List SymbolValue
+literals_functions ls = flat_map (λ l. atom_functions l.atom) ls
+
+abbrev pub literals_variables : List WrittenLiteral → List (List ℕ)
+literals_variables ls = flat_map (λ l. atom_variables l.atom) ls
+
+-- those of the formulas that are not left out
+abbrev pub file_predicates : List WrittenFormula → List SymbolValue
 file_predicates [] = []
-file_predicates (f ∷ fs) = literal_predicates f.literals ++ file_predicates fs
+file_predicates (f ∷ fs) = if is_left_out f then file_predicates fs else literals_predicates (literals_of f) ++ file_predicates fs
 
--- The known symbols, and behind them those of the others that are new, in the order of first occurrence.
+abbrev pub file_functions : List WrittenFormula → List SymbolValue
+file_functions [] = []
+file_functions (f ∷ fs) = if is_left_out f then file_functions fs else literals_functions (literals_of f) ++ file_functions fs
+
+-- the known symbols, and behind them those of the others that are new, in the order of first occurrence
 abbrev pub with_symbols : List SymbolValue → List SymbolValue → List SymbolValue
 with_symbols known [] = known
 with_symbols known (s ∷ ss) = with_symbols (with_symbol known s) ss
 
--- the predicates of a file by their numbers
-abbrev pub predicates_of : List Formula → List SymbolValue
-predicates_of formulas = with_symbols [] (file_predicates formulas)
+-- ---- terms, literals and clauses
 
--- a literal over the predicates
-abbrev pub literal_of : List SymbolValue → WrittenLiteral → Literal
-literal_of predicates l = record { positive = l.positive; atom = record { pred = number_of (word_symbol l.atom) predicates; args = Nil } }
+-- the place at which a text stands first, from 0
+abbrev pub place_of : List ℕ → List (List ℕ) → ℕ
+place_of text texts = position_or_len (bytes_eq text) texts
+
+-- a term over these functions and variables
+abbrev mutual
+  pub term_of : List SymbolValue → List (List ℕ) → WrittenTerm → TermValue
+  term_of functions variables (Variable text) = Var (place_of text variables)
+  term_of functions variables (Distinct text) = App (number_of (symbol (distinct text) 0) functions) Nil
+  term_of functions variables (Apply name ts) = App (number_of (name_symbol name ts) functions) (terms_of functions variables ts)
+
+  pub terms_of : List SymbolValue → List (List ℕ) → WrittenTerms → Arguments
+  terms_of functions variables NoTerms = Nil
+  terms_of functions variables (OneMore t ts) = Cons (term_of functions variables t) (terms_of functions variables ts)
+
+-- The literal with this sign and atom. A literal $false or ~$true is left out; in a formula that is kept there is no $true or ~$false.
+abbrev pub signed_literal : SignatureValue → List (List ℕ) → Bool → WrittenAtom → List Literal
+signed_literal signature variables positive (Truth value) = []
+signed_literal signature variables positive (Predicate name ts) = (record { positive = positive; atom = record { pred = number_of (name_symbol name ts) signature.predicates; args = terms_of signature.functions variables ts } }) ∷ []
+
+abbrev pub clause_literals : SignatureValue → List (List ℕ) → List WrittenLiteral → List Literal
+clause_literals signature variables ls = flat_map (λ l. signed_literal signature variables (is_positive l.sign) l.atom) ls
+
+-- the variables of a formula, in the order of first occurrence
+abbrev pub variables_of : WrittenFormula → List (List ℕ)
+variables_of f = with_variables [] (literals_variables (literals_of f))
 
 -- the clause of the formula with this number: its literals in order, repeated ones too
-abbrev pub clause_of : List SymbolValue → ℕ → Formula → ClauseValue
-clause_of predicates number f = record { number = number; label = word_label f.name; literals = map (literal_of predicates) f.literals }
+abbrev pub clause_of : SignatureValue → ℕ → WrittenFormula → ClauseValue
+clause_of signature number f = record { number = number; label = label_of f.label; literals = clause_literals signature (variables_of f) (literals_of f) }
 
--- the clauses of the formulas, which are numbered from this number on
-abbrev pub clauses_of : List SymbolValue → ℕ → List Formula → List ClauseValue
-clauses_of predicates number [] = []
-clauses_of predicates number (f ∷ fs) = clause_of predicates number f ∷ clauses_of predicates (number + 1) fs
+-- the clauses of the formulas, the first of which has this number; that of a formula that is left out stays used
+abbrev pub clauses_of : SignatureValue → ℕ → List WrittenFormula → List ClauseValue
+clauses_of signature number [] = []
+clauses_of signature number (f ∷ fs) = if is_left_out f then clauses_of signature (number + 1) fs else clause_of signature number f ∷ clauses_of signature (number + 1) fs
 
--- the constant that is added where a file has none
+-- ---- problems
+
 abbrev pub c0_symbol : SymbolValue
-c0_symbol = word_symbol (codes "c0")
+c0_symbol = symbol (word (codes "c0")) 0
 
--- The problem that the formulas mean. No formula has a function, so c0 is added as the only one.
-abbrev pub problem_of : List Formula → ProblemValue
-problem_of formulas =
-    let predicates = predicates_of formulas in
-    record { clauses = clauses_of predicates 1 formulas; signature = record { functions = c0_symbol ∷ []; predicates = predicates }; c0 = 0 }
+-- Where no function is a constant, c0 is added as the last one.
+abbrev pub with_constant : List SymbolValue → List SymbolValue
+with_constant functions = if list_any is_constant functions then functions else functions ++ c0_symbol ∷ []
+
+-- the functions and the predicates of a file by their numbers
+abbrev pub signature_of : List WrittenFormula → SignatureValue
+signature_of file = record { functions = with_constant (with_symbols [] (file_functions file)); predicates = with_symbols [] (file_predicates file) }
+
+-- The problem that a file means. Its c0 is the first constant.
+abbrev pub problem_of : List WrittenFormula → ProblemValue
+problem_of file =
+    let signature = signature_of file in
+    record { clauses = clauses_of signature 1 file; signature = signature; c0 = position_or_len is_constant signature.functions }

@@ -1,146 +1,274 @@
 //! The problem as far as it is read.
 //!
-//! A literal that is added numbers its predicate, a clause takes the literals since the last one, and
-//! the constant `c0` is added at the end. What would pass the numbers of a small file is refused.
-ghost use Rattle.std.specs.Prelude.{◌≡◌, ◌<◌, ◌≤◌, ◌-◌, ◌^◌, true, false, length, OnOk, IfOk, IsErrOf};
-ghost use Rattle.tptp_cnf.specs.Meaning.{word_symbol as symbol_of};
+//! The names of a formula are kept until its end. Then they are numbered and made a clause, unless the
+//! formula is left out. Where no kept clause has a constant, `c0` is added at the end.
+ghost use Rattle.std.specs.Prelude.{◌≡◌, [], ◌∷◌, ◌++◌, true, false, slice_get, OnOk, IfOk, IfSome, IfNone};
+ghost use Rattle.std.specs.List.{list_any, position_or_len};
+ghost use Rattle.tptp_grammar.specs.Views.{terminal_of};
+ghost use Rattle.tptp_cnf.specs.Meaning.{same_truth, is_constant, with_constant, c0_symbol as c0_value};
+ghost use Rattle.tptp_cnf.specs.Rows as rows;
 
-use crate::error::CnfError;
-use me_terms::{
-    Atom, Clause, Clauses, Form, Label, Literal, Literals, Problem, Signature, Symbol, Terms, Text,
-};
+use crate::build::built;
+use crate::item::{Item, Role};
+use crate::numbers::{function, label, numbered};
+use me_terms::{Clause, Clauses, Form, Label, Problem, Signature, Symbol, Text};
 use std::alloc::{AllocError, Global};
 use std::mem;
+use tptp_grammar::Part;
+use tptp_tokens::{Token, TokenKind};
 
-/// The greatest number of different atoms in a file.
-const ATOMS: u32 = 1999;
-
-/// The greatest number of literals in a file.
-const LITERALS: u32 = 10_000_000;
-
-/// The greatest number of literals in a formula.
-const FORMULA_LITERALS: u64 = 4096;
-
-/// The greatest number of formulas in a file.
-const FORMULAS: u64 = 1_048_576;
-
-/// The clauses and symbols so far, the literals of the formula that is being read, and the number of
-/// literals in all.
+/// The clauses and symbols so far, and the formula that is being read.
 #[derive(Drop)]
-pub(crate) struct Builder {
+pub(crate) struct Builder<'a> {
     signature: Signature,
     clauses: Clauses,
-    literals: Literals,
-    total: u32,
+    /// The number of formulas that have begun.
+    number: u32,
+    label: Label,
+    /// No literal of the formula so far makes it true.
+    is_kept: bool,
+    items: Vec<Item<'a>>,
+    /// The places of the names whose arguments are being read, the outermost first.
+    open: Vec<usize>,
 }
 
-/// A copy of the bytes.
-pub(crate) fn text(alloc: Global, bytes: &[u8]) -> Result<Text, AllocError>
-    ensures { IfOk result (λ copy. copy.items ≡ bytes.now) }
+/// A label without text.
+fn no_label(alloc: Global) -> Label
+    ensures { result ≡ rows.no_label }
 {
-    let mut copy = Text::new(alloc);
-    copy.reserve(bytes.len() as u64)?;
-    for byte in bytes {
-        if copy.push(*byte).is_err() {
-            return Err(AllocError);
+    Label {
+        form: Form::Word,
+        text: Text::new(alloc),
+    }
+}
+
+/// Whether a literal of this sign with `$true`, or else with `$false`, is true.
+fn is_true(positive: bool, truth: bool) -> bool
+    ensures { result ≡ same_truth positive truth }
+{
+    if positive { truth } else { !truth }
+}
+
+/// Whether the function of this number is a constant.
+fn is_constant_at(signature: &Signature, number: u32) -> bool
+    ensures { result ≡ rows.constant_at (slice_get signature.now.functions number) }
+{
+    match signature.fun(number) {
+        Some(symbol) => symbol.arity == 0,
+        None => false,
+    }
+}
+
+/// The number of the first constant.
+fn first_constant(signature: &Signature) -> Option<u32>
+    ensures some { IfSome result (λ n. n ≡ position_or_len is_constant signature.now.functions) }
+    ensures found { IfSome result (λ n. list_any is_constant signature.now.functions ≡ true) }
+    ensures none { IfNone result (list_any is_constant signature.now.functions ≡ false) }
+{
+    'functions: for number in 0..signature.fun_count() {
+        if is_constant_at(signature, number) {
+            return Some(number);
         }
     }
-    Ok(copy)
+    None
 }
 
-/// The symbol of a word without arguments.
-fn word_symbol(alloc: Global, word: &[u8]) -> Result<Symbol, AllocError>
-    ensures { IfOk result (λ symbol. symbol ≡ symbol_of word.now) }
+/// Puts a byte at the end.
+fn push_byte(text: &mut Text, byte: u8) -> Result<(), AllocError>
+    ensures { OnOk result (text.new.items ≡ text.old.items ++ byte ∷ []) }
 {
-    let label = Label {
-        form: Form::Word,
-        text: text(alloc, word)?,
-    };
-    Ok(Symbol { label, arity: 0 })
+    match text.push(byte) {
+        Ok(()) => Ok(()),
+        Err(_) => Err(AllocError),
+    }
 }
 
-impl Builder {
-    ghost use Rattle.tptp_cnf.specs.Machine.{draft, empty_draft, with_literal, takes_literal, with_clause, takes_clause, finished};
+/// The symbol of the constant that is added where there is none.
+fn c0_symbol(alloc: Global) -> Result<Symbol, AllocError>
+    ensures { IfOk result (λ symbol. symbol ≡ c0_value) }
+{
+    let mut text = Text::new(alloc);
+    push_byte(&mut text, b'c')?;
+    push_byte(&mut text, b'0')?;
+    Ok(Symbol {
+        label: Label {
+            form: Form::Word,
+            text,
+        },
+        arity: 0,
+    })
+}
+
+/// The number of the first constant. Where there is none, `c0` is added.
+fn constant(alloc: Global, signature: &mut Signature) -> Result<u32, AllocError>
+    ensures number { IfOk result (λ n. n ≡ position_or_len is_constant (with_constant signature.old.functions)) }
+    ensures added { OnOk result (signature.new ≡ record signature.old { functions = with_constant signature.old.functions }) }
+{
+    match first_constant(signature) {
+        Some(number) => Ok(number),
+        None => Ok(function(signature, c0_symbol(alloc)?)?),
+    }
+}
+
+impl<'a> Builder<'a> {
+    ghost use Rattle.tptp_cnf.specs.Views.{draft};
 
     /// Nothing is read so far.
     pub(crate) fn new(alloc: Global) -> Self
-        ensures { draft result ≡ empty_draft }
+        ensures { draft result ≡ rows.empty_draft }
     {
         Builder {
             signature: Signature::new(alloc),
             clauses: Clauses::new(alloc),
-            literals: Literals::new(alloc),
-            total: 0,
+            number: 0,
+            label: no_label(alloc),
+            is_kept: true,
+            items: Vec::new(alloc),
+            open: Vec::new(alloc),
         }
     }
 
-    /// Adds a literal. `NotYet` comes where that passes a number. After an `Err` the builder is of no use.
-    pub(crate) fn add_literal(
-        &mut self,
-        alloc: Global,
-        positive: bool,
-        atom: &[u8],
-    ) -> Result<(), CnfError>
-        requires { length self.old.signature.predicates ≤ 1999 }
-        ensures ok { OnOk result (draft self.new ≡ with_literal (draft self.old) (record { positive = positive; atom = atom.now })) }
-        ensures taken { OnOk result (takes_literal (draft self.old) atom.now ≡ true) }
-        ensures refused { IsErrOf result CnfError.NotYet → takes_literal (draft self.old) atom.now ≡ false }
+    /// A formula begins.
+    fn begin(&mut self) -> Result<(), AllocError>
+        ensures { OnOk result (draft self.new ≡ rows.begun (draft self.old)) }
     {
-        if self.literals.len() >= FORMULA_LITERALS || self.total >= LITERALS {
-            return Err(CnfError::NotYet);
-        }
-        let pred = self.signature.add_pred(word_symbol(alloc, atom)?)?;
-        if self.signature.pred_count() > ATOMS {
-            return Err(CnfError::NotYet);
-        }
-        let args = Terms::new(alloc);
-        let atom = Atom { pred, args };
-        if self.literals.push(Literal { positive, atom }).is_err() {
-            return Err(CnfError::Memory);
-        }
-        self.total += 1;
+        self.number = self.number.checked_add(1).ok_or(AllocError)?;
+        self.is_kept = true;
+        self.items.clear();
+        self.open.clear();
         Ok(())
     }
 
-    /// Makes a clause of the literals. `NotYet` comes where that passes a number. After an `Err` the
-    /// builder is of no use.
-    pub(crate) fn add_clause(&mut self, alloc: Global, name: Text) -> Result<(), CnfError>
-        ensures ok { OnOk result (draft self.new ≡ with_clause (draft self.old) name.items) }
-        ensures taken { OnOk result (takes_clause (draft self.old) ≡ true) }
-        ensures refused { IsErrOf result CnfError.NotYet → takes_clause (draft self.old) ≡ false }
+    /// Puts a name into the row.
+    fn push(&mut self, role: Role, name: &Token<'a>) -> Result<(), AllocError>
+        ensures { OnOk result (draft self.new ≡ rows.with_name role (terminal_of name.now) (draft self.old)) }
     {
-        if self.clauses.len() >= FORMULAS {
-            return Err(CnfError::NotYet);
+        self.items.push(Item {
+            role,
+            name: *name,
+            arity: 0,
+        })?;
+        Ok(())
+    }
+
+    /// The first token of an atom: its predicate, or `$true` or `$false`.
+    fn atom(&mut self, positive: bool, token: &Token<'a>) -> Result<(), AllocError>
+        ensures { OnOk result (draft self.new ≡ rows.with_atom positive (terminal_of token.now) (draft self.old)) }
+    {
+        match token.kind {
+            TokenKind::DollarWord => {
+                if is_true(positive, token.text == b"$true".as_slice()) {
+                    self.is_kept = false;
+                }
+                Ok(())
+            }
+            _ => if positive {
+                self.push(Role::Positive, token)
+            } else {
+                self.push(Role::Negative, token)
+            },
         }
-        let number = self.clauses.len() as u32 + 1;
-        let literals = mem::replace(&mut self.literals, Literals::new(alloc));
-        let label = Label {
-            form: Form::Word,
-            text: name,
-        };
+    }
+
+    /// The first token of an argument.
+    fn argument(&mut self, token: &Token<'a>) -> Result<(), AllocError>
+        ensures { OnOk result (draft self.new ≡ rows.with_argument (terminal_of token.now) (draft self.old)) }
+    {
+        match token.kind {
+            TokenKind::Variable => self.push(Role::Variable, token),
+            _ => self.push(Role::Function, token),
+        }
+    }
+
+    /// The arguments of the last name come next.
+    fn open_arguments(&mut self) -> Result<(), AllocError>
+        ensures { OnOk result (draft self.new ≡ rows.opened (draft self.old)) }
+    {
+        self.open.push(self.items.len().saturating_sub(1))?;
+        Ok(())
+    }
+
+    /// The innermost name whose arguments are being read has so many.
+    fn close_arguments(&mut self, count: u32)
+        ensures { draft self.new ≡ rows.closed count (draft self.old) }
+    {
+        if let Some(place) = self.open.pop() {
+            if place < self.items.len() {
+                self.items[place].arity = count;
+            }
+        }
+    }
+
+    /// The names so far become a clause.
+    fn add_clause(&mut self, alloc: Global) -> Result<(), AllocError>
+        ensures { OnOk result (draft self.new ≡ rows.with_clause (draft self.old)) }
+    {
+        let nodes = numbered(alloc, &mut self.signature, &self.items)?;
+        let literals = built(alloc, &nodes)?;
+        let label = mem::replace(&mut self.label, no_label(alloc));
         let clause = Clause {
-            number,
+            number: self.number,
             label,
             literals,
         };
         match self.clauses.push(clause) {
             Ok(()) => Ok(()),
-            Err(_) => Err(CnfError::Memory),
+            Err(_) => Err(AllocError),
+        }
+    }
+
+    /// The formula ends.
+    fn end(&mut self, alloc: Global) -> Result<(), AllocError>
+        ensures { OnOk result (draft self.new ≡ rows.ended (draft self.old)) }
+    {
+        if self.is_kept {
+            return self.add_clause(alloc);
+        }
+        Ok(())
+    }
+
+    /// Takes a token that is this part of a file. After an `Err` the builder is of no use.
+    pub(crate) fn take(
+        &mut self,
+        alloc: Global,
+        part: Part,
+        token: &Token<'a>,
+    ) -> Result<(), AllocError>
+        ensures { OnOk result (draft self.new ≡ rows.fed (draft self.old) part (terminal_of token.now)) }
+    {
+        match part {
+            Part::Formula => self.begin(),
+            Part::Label => {
+                self.label = label(alloc, token)?;
+                Ok(())
+            }
+            Part::Positive => self.atom(true, token),
+            Part::Atom => self.atom(false, token),
+            Part::Argument(_) => self.argument(token),
+            Part::OpenArguments => self.open_arguments(),
+            Part::CloseArguments(count) => {
+                self.close_arguments(count);
+                Ok(())
+            }
+            Part::End => self.end(alloc),
+            Part::Role | Part::Negative | Part::Other => Ok(()),
         }
     }
 
     /// The problem of the clauses.
     pub(crate) fn finish(self, alloc: Global) -> Result<Problem, AllocError>
-        requires { length self.signature.functions < 2 ^ 32 - 1 }
-        ensures { IfOk result (λ problem. problem ≡ finished (draft self)) }
+        ensures { IfOk result (λ problem. problem ≡ rows.finished (draft self.entry)) }
     {
         let Builder {
             mut signature,
             clauses,
-            literals: _,
-            total: _,
+            number: _,
+            label: _,
+            is_kept: _,
+            items: _,
+            open: _,
         } = self;
-        let c0 = signature.add_fun(word_symbol(alloc, b"c0")?)?;
+        let c0 = constant(alloc, &mut signature)?;
         Ok(Problem {
             clauses,
             signature,

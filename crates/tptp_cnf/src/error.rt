@@ -1,52 +1,42 @@
 //! Why a file is refused.
 //!
-//! A refusal names its cause, and the place of the refused token: its offset in the file, from 0.
+//! A refusal names its cause, and the place of the refused token: its offset in the file, from 0. Where
+//! the file ends too early, that place is its length.
 use std::alloc::AllocError;
 use thiserror::Error;
-
-/// What a file asks for that lies outside of the profile.
-#[derive(Clone, Copy, Debug, PartialEq, Eq)]
-pub enum What {
-    /// An equation, or a disequation.
-    Equality,
-    /// A formula of another TPTP language.
-    Language,
-    /// An include of another file.
-    Include,
-    /// A number as a term.
-    Number,
-    /// A defined or a system symbol other than `$true` and `$false`.
-    Defined,
-    /// The role of a conjecture.
-    Conjecture,
-    /// Another role outside of the profile.
-    Role,
-}
-
-/// The limit that a file passes.
-#[derive(Clone, Copy, Debug, PartialEq, Eq)]
-pub enum Which {
-    /// 1,048,576 formulas in a file.
-    Clauses,
-    /// 4,096 literals in a formula.
-    Literals,
-    /// 1,024 variables in a formula.
-    Variables,
-    /// 64 arguments of a symbol.
-    Arguments,
-    /// 250 round and square brackets open at once.
-    Nesting,
-}
+use tptp_grammar::{Refusal, What, Which};
 
 /// Why a file was not read.
 #[derive(Debug, Drop, Error)]
 pub enum CnfError {
-    /// The file lies outside of what is read so far, whether it is in the profile or not.
-    #[error("not read yet")]
-    NotYet,
+    /// No file goes on with the token, or the file ends too early.
+    #[error("syntax error at byte {at}")]
+    Syntax { at: u64 },
+    /// No file goes on with the token, which asks for something that lies outside of the profile.
+    #[error("not in the profile at byte {at}")]
+    Inappropriate { what: What, at: u64 },
+    /// The token passes a limit.
+    #[error("a limit is passed at byte {at}")]
+    Limit { which: Which, at: u64 },
     /// Memory is out.
     #[error("out of memory")]
     Memory,
+}
+
+impl CnfError {
+    ghost use Rattle.std.specs.Prelude.{◌≡◌};
+    ghost use Rattle.tptp_cnf.specs.Causes.{error_of};
+
+    /// The token at this place is refused.
+    pub(crate) fn refused(refusal: Refusal, at: u64) -> Self
+        ensures { result ≡ error_of refusal at }
+    {
+        match refusal {
+            Refusal::Syntax => CnfError::Syntax { at },
+            Refusal::Inappropriate(what) => CnfError::Inappropriate { what, at },
+            Refusal::Limit(which) => CnfError::Limit { which, at },
+        }
+    }
 }
 
 impl From<AllocError> for CnfError {

@@ -1,19 +1,21 @@
 //! The cnf part of the TPTP language, in this project's profile.
 //!
-//! A file is read as a problem, or it is refused with the cause. Which bytes are a file, and what a file
-//! means, is said in `specs/`.
+//! A file is read as the problem that it means, or it is refused with the cause and the place of the
+//! refused token. Which bytes are a file, what a file means, and what is refused is said in `specs/`.
 #![tactic(auto)]
 
+mod build;
 mod builder;
 mod error;
+mod item;
 mod laws;
-mod machine;
+mod numbers;
 mod read;
-mod token;
 
-pub use error::{CnfError, What, Which};
-pub use laws::the_problem_is_determined;
+pub use error::CnfError;
+pub use laws::{one_cause, one_problem, refused_is_no_file};
 pub use read::read_problem;
+pub use tptp_grammar::{What, Which};
 
 #[cfg(test)]
 mod tests;

@@ -1,31 +1,75 @@
 //! A file is read as a problem.
 //!
-//! A small file is read as the problem that it means, and everything else is refused.
-ghost use Rattle.std.specs.Prelude.{◌≤◌, length, IfOk, IsErrOf};
-ghost use Rattle.me_terms.specs.Values.{ProblemValue};
+//! The tokens of the bytes are taken one after another, each by the machine of the grammar, which says
+//! what it is in the file or refuses it, and by the builder of the problem.
+ghost use Rattle.std.specs.Prelude.{◌≡◌, ◌+◌, ◌≤◌, length, OnOk, IfOk, IfErr};
 ghost use Rattle.me_terms.specs.Validity.{IsValid};
-ghost use Rattle.tptp_cnf.specs.SmallFiles.{IsSmallFile};
+ghost use Rattle.tptp_cnf.specs.Files.{IsFile, clauses_weight};
+ghost use Rattle.tptp_cnf.specs.Causes.{IsCause};
 
+use crate::builder::Builder;
 use crate::error::CnfError;
-use crate::machine::Machine;
-use crate::token::next;
 use me_terms::Problem;
 use std::alloc::Global;
+use tptp_grammar::{Machine, StepError};
+use tptp_tokens::{Token, Tokenizer};
 
-/// The problem that the bytes of a small file mean, which is valid. A small file has at most 1,999
-/// different atoms, 10,000,000 literals, 4,096 literals in one formula and 1,048,576 formulas, and its
-/// atoms have no arguments. `NotYet` comes exactly where the bytes are no small file.
+/// What was read so far.
+#[derive(Drop)]
+struct Reader<'a> {
+    machine: Machine<'a>,
+    builder: Builder<'a>,
+}
+
+impl<'a> Reader<'a> {
+    ghost use Rattle.tptp_grammar.specs.Machine.{part_at};
+    ghost use Rattle.tptp_grammar.specs.MachineViews.{reading};
+    ghost use Rattle.tptp_grammar.specs.Readings.{verdict, GoesOn};
+    ghost use Rattle.tptp_grammar.specs.Views.{terminal_of};
+    ghost use Rattle.tptp_cnf.specs.Rows.{fed};
+    ghost use Rattle.tptp_cnf.specs.Views.{draft, TellsAt};
+
+    /// Takes a token. After an `Err` the reader is of no use.
+    fn step(&mut self, alloc: Global, token: &Token<'a>) -> Result<(), CnfError>
+        ensures goes { OnOk result (verdict (reading self.old.machine) (terminal_of token.now) ≡ GoesOn (reading self.new.machine)) }
+        ensures fed { OnOk result (draft self.new.builder ≡ fed (draft self.old.builder) (part_at (reading self.old.machine).state (terminal_of token.now)) (terminal_of token.now)) }
+        ensures refused { IfErr result (TellsAt token.now.at (verdict (reading self.old.machine) (terminal_of token.now))) }
+    {
+        let part = match self.machine.step(token) {
+            Ok(part) => part,
+            Err(StepError::Refused(refusal)) => return Err(CnfError::refused(refusal, token.at)),
+            Err(StepError::Memory) => return Err(CnfError::Memory),
+        };
+        self.builder.take(alloc, part, token)?;
+        Ok(())
+    }
+}
+
+/// The problem that the bytes mean as a file of the profile, which is valid. The sum of its clauses'
+/// weights, its number of functions and its number of predicates are each at most one more than the
+/// number of bytes. Each refusal but `Memory` has its cause at its place.
 pub fn read_problem(alloc: Global, bytes: &[u8]) -> Result<Problem, CnfError>
     requires { length bytes.now ≤ 67108864 }
-    ensures means { IfOk result (IsSmallFile bytes.now) }
+    ensures means { IfOk result (IsFile bytes.now) }
+    ensures cause { IfErr result (IsCause bytes.now) }
     ensures valid { IfOk result IsValid }
-    ensures not_yet { IsErrOf result CnfError.NotYet → (problem : ProblemValue) → IsSmallFile bytes.now problem → ⊥ }
+    ensures weight { IfOk result (λ problem. clauses_weight problem.clauses ≤ length bytes.now + 1) }
+    ensures functions { IfOk result (λ problem. length problem.signature.functions ≤ length bytes.now + 1) }
+    ensures predicates { IfOk result (λ problem. length problem.signature.predicates ≤ length bytes.now + 1) }
 {
-    let mut machine = Machine::new(alloc);
-    let mut rest = bytes;
-    'tokens: while let Some((_, token, after)) = next(rest) {
-        machine.step(alloc, token)?;
-        rest = after;
+    let mut tokenizer = Tokenizer::new(bytes);
+    let mut reader = Reader {
+        machine: Machine::new(alloc),
+        builder: Builder::new(alloc),
+    };
+    'tokens: while let Some(token) = tokenizer.next() {
+        reader.step(alloc, &token)?;
     }
-    machine.finish(alloc)
+    let Reader { machine, builder } = reader;
+    if !machine.is_whole() {
+        return Err(CnfError::Syntax {
+            at: bytes.len() as u64,
+        });
+    }
+    Ok(builder.finish(alloc)?)
 }

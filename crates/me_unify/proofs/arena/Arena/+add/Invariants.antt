@@ -15,10 +15,10 @@ decreases-add_all l = 2 * heights (arguments_of l.terms.now.items) + 1
 
 abbrev pub invariant-add_all-loop-k : goal.invariant-add_all-loop-k
 invariant-add_all-loop-k l = record {
-  arena : IsArena l.self.nodes.items l.self.links;
-  grown : IsGrown l.initial.self.nodes.items l.self.nodes.items;
-  within : (i : ℕ) → i < length l.made.items → get_or l.made.items i 0 < length l.self.nodes.items;
-  made : (t : Family) (h : Colouring) → Fits l.self.nodes.items t h
+  arena : IsArena l.self.nodes l.self.links;
+  grown : IsGrown l.initial.self.nodes l.self.nodes;
+  within : (i : ℕ) → i < length l.made.items → get_or l.made.items i 0 < length l.self.nodes;
+  made : (t : Family) (h : Colouring) → Fits l.self.nodes t h
       → apply_arguments (t l.space) (arguments_of l.terms.items) ≡ join (map h l.made.items) (apply_arguments (t l.space) (arguments_of (drop l.k l.terms.items)));
   froms : l.self.links.froms.items ≡ l.initial.self.links.froms.items;
   tos : l.self.links.tos.items ≡ l.initial.self.links.tos.items;

@@ -7,4 +7,4 @@ use Rattle.me_unify.proofs.bindings.Bindings.mark.Goals as goal
 pub returns-clause-unifier : goal.returns-clause-unifier
 returns-clause-unifier c =
     let P : List Equation → Type 0 = λ z. (u : Family) × IsMostGeneral z u in
-    subst P c.self.view_is (general_of c.self.inside.arena.nodes.items c.self.inside.arena.links c.self.inside.steps.items c.self.invariant)
+    subst P c.self.view_is (general_of c.self.inside.arena.nodes c.self.inside.arena.links c.self.inside.steps.items c.self.invariant)

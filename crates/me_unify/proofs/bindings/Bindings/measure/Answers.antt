@@ -12,43 +12,43 @@ use Rattle.me_unify.proofs.bindings.Bindings.measure.Goals as goal
 
 pub cut-requires-clause-mark : goal.cut-requires-clause-mark
 cut-requires-clause-mark c =
-    mark_before c.self.inside.arena.nodes.items c.measure_terms-result.new.self.nodes.items c.self.inside.arena.links c.measure_terms-result.new.self.links c.len-nodes.result c.len-links.result c.self.invariant.arena c.measure_terms-result.ensures.grown
+    mark_before c.self.inside.arena.nodes c.measure_terms-result.new.self.nodes c.self.inside.arena.links c.measure_terms-result.new.self.links c.len-nodes.result c.len-links.result c.self.invariant.arena c.measure_terms-result.ensures.grown
     (same_links c.self.inside.arena.links c.measure_terms-result.new.self.links c.measure_terms-result.ensures.froms c.measure_terms-result.ensures.tos) (search (rules, c.len-nodes.ensures)) (search (rules, c.len-links.ensures))
 
 pub invariant_of-self : goal.invariant_of-self
 invariant_of-self c =
-    let back : IsBack c.self.inside.arena.nodes.items c.self.inside.arena.links c.cut.new.self.nodes.items c.cut.new.self.links =
-    back_by c.self.inside.arena.nodes.items c.measure_terms-result.new.self.nodes.items c.cut.new.self.nodes.items c.self.inside.arena.links c.measure_terms-result.new.self.links c.cut.new.self.links c.len-nodes.result c.len-links.result c.measure_terms-result.ensures.grown
+    let back : IsBack c.self.inside.arena.nodes c.self.inside.arena.links c.cut.new.self.nodes c.cut.new.self.links =
+    back_by c.self.inside.arena.nodes c.measure_terms-result.new.self.nodes c.cut.new.self.nodes c.self.inside.arena.links c.measure_terms-result.new.self.links c.cut.new.self.links c.len-nodes.result c.len-links.result c.measure_terms-result.ensures.grown
     (same_links c.self.inside.arena.links c.measure_terms-result.new.self.links c.measure_terms-result.ensures.froms c.measure_terms-result.ensures.tos) (search (rules, c.len-nodes.ensures)) (search (rules, c.len-links.ensures)) c.cut.ensures.nodes c.cut.ensures.links in
-    bound_back c.self.inside.arena.nodes.items c.cut.new.self.nodes.items c.self.inside.arena.links c.cut.new.self.links c.self.inside.steps.items c.self.invariant c.cut.ensures.arena back
+    bound_back c.self.inside.arena.nodes c.cut.new.self.nodes c.self.inside.arena.links c.cut.new.self.links c.self.inside.steps.items c.self.invariant c.cut.ensures.arena back
 
 pub invariant_of-self-2 : goal.invariant_of-self-2
 invariant_of-self-2 c =
-    let back : IsBack c.self.inside.arena.nodes.items c.self.inside.arena.links c.cut.new.self.nodes.items c.cut.new.self.links =
-    back_by c.self.inside.arena.nodes.items c.measure_terms-result.new.self.nodes.items c.cut.new.self.nodes.items c.self.inside.arena.links c.measure_terms-result.new.self.links c.cut.new.self.links c.len-nodes.result c.len-links.result c.measure_terms-result.ensures.grown
+    let back : IsBack c.self.inside.arena.nodes c.self.inside.arena.links c.cut.new.self.nodes c.cut.new.self.links =
+    back_by c.self.inside.arena.nodes c.measure_terms-result.new.self.nodes c.cut.new.self.nodes c.self.inside.arena.links c.measure_terms-result.new.self.links c.cut.new.self.links c.len-nodes.result c.len-links.result c.measure_terms-result.ensures.grown
     (same_links c.self.inside.arena.links c.measure_terms-result.new.self.links c.measure_terms-result.ensures.froms c.measure_terms-result.ensures.tos) (search (rules, c.len-nodes.ensures)) (search (rules, c.len-links.ensures)) c.cut.ensures.nodes c.cut.ensures.links in
-    bound_back c.self.inside.arena.nodes.items c.cut.new.self.nodes.items c.self.inside.arena.links c.cut.new.self.links c.self.inside.steps.items c.self.invariant c.cut.ensures.arena back
+    bound_back c.self.inside.arena.nodes c.cut.new.self.nodes c.self.inside.arena.links c.cut.new.self.links c.self.inside.steps.items c.self.invariant c.cut.ensures.arena back
 
 pub returns-in_err-all-clause-kept : goal.returns-in_err-all-clause-kept
 returns-in_err-all-clause-kept c =
-    let back : IsBack c.self.inside.arena.nodes.items c.self.inside.arena.links c.cut.new.self.nodes.items c.cut.new.self.links =
-    back_by c.self.inside.arena.nodes.items c.measure_terms-result.new.self.nodes.items c.cut.new.self.nodes.items c.self.inside.arena.links c.measure_terms-result.new.self.links c.cut.new.self.links c.len-nodes.result c.len-links.result c.measure_terms-result.ensures.grown
+    let back : IsBack c.self.inside.arena.nodes c.self.inside.arena.links c.cut.new.self.nodes c.cut.new.self.links =
+    back_by c.self.inside.arena.nodes c.measure_terms-result.new.self.nodes c.cut.new.self.nodes c.self.inside.arena.links c.measure_terms-result.new.self.links c.cut.new.self.links c.len-nodes.result c.len-links.result c.measure_terms-result.ensures.grown
     (same_links c.self.inside.arena.links c.measure_terms-result.new.self.links c.measure_terms-result.ensures.froms c.measure_terms-result.ensures.tos) (search (rules, c.len-nodes.ensures)) (search (rules, c.len-links.ensures)) c.cut.ensures.nodes c.cut.ensures.links in
-    let view : equations_of c.cut.new.self.nodes.items c.self.inside.steps.items ≡ equations_of c.self.inside.arena.nodes.items c.self.inside.steps.items = ap (λ z. equations_of z c.self.inside.steps.items) back.nodes_are in
+    let view : equations_of c.cut.new.self.nodes c.self.inside.steps.items ≡ equations_of c.self.inside.arena.nodes c.self.inside.steps.items = ap (λ z. equations_of z c.self.inside.steps.items) back.nodes_are in
     view ∙ c.self.view_is
 
 pub returns-clause-kept : goal.returns-clause-kept
 returns-clause-kept c =
-    let back : IsBack c.self.inside.arena.nodes.items c.self.inside.arena.links c.cut.new.self.nodes.items c.cut.new.self.links =
-    back_by c.self.inside.arena.nodes.items c.measure_terms-result.new.self.nodes.items c.cut.new.self.nodes.items c.self.inside.arena.links c.measure_terms-result.new.self.links c.cut.new.self.links c.len-nodes.result c.len-links.result c.measure_terms-result.ensures.grown
+    let back : IsBack c.self.inside.arena.nodes c.self.inside.arena.links c.cut.new.self.nodes c.cut.new.self.links =
+    back_by c.self.inside.arena.nodes c.measure_terms-result.new.self.nodes c.cut.new.self.nodes c.self.inside.arena.links c.measure_terms-result.new.self.links c.cut.new.self.links c.len-nodes.result c.len-links.result c.measure_terms-result.ensures.grown
     (same_links c.self.inside.arena.links c.measure_terms-result.new.self.links c.measure_terms-result.ensures.froms c.measure_terms-result.ensures.tos) (search (rules, c.len-nodes.ensures)) (search (rules, c.len-links.ensures)) c.cut.ensures.nodes c.cut.ensures.links in
-    let view : equations_of c.cut.new.self.nodes.items c.self.inside.steps.items ≡ equations_of c.self.inside.arena.nodes.items c.self.inside.steps.items = ap (λ z. equations_of z c.self.inside.steps.items) back.nodes_are in
+    let view : equations_of c.cut.new.self.nodes c.self.inside.steps.items ≡ equations_of c.self.inside.arena.nodes c.self.inside.steps.items = ap (λ z. equations_of z c.self.inside.steps.items) back.nodes_are in
     view ∙ c.self.view_is
 
 pub returns-clause-measure : goal.returns-clause-measure
 returns-clause-measure c u general =
     let P : List Equation → Type 0 = λ z. IsMostGeneral z u in
-    let all = measured_by c.self.inside.arena.nodes.items c.self.inside.arena.links c.measure_terms-result.new.self.nodes.items c.measure_terms-result.new.self.links c.self.inside.steps.items c.self.invariant c.measure_terms-result.ensures.arena c.measure_terms-result.ensures.grown c.measure_terms-result.ensures.froms c.measure_terms-result.ensures.tos
+    let all = measured_by c.self.inside.arena.nodes c.self.inside.arena.links c.measure_terms-result.new.self.nodes c.measure_terms-result.new.self.links c.self.inside.steps.items c.self.invariant c.measure_terms-result.ensures.arena c.measure_terms-result.ensures.grown c.measure_terms-result.ensures.froms c.measure_terms-result.ensures.tos
     c.args.space (arguments_of c.atom.inside.args.items) c.in_ok-all.all c.in_ok-all.ensures.measure u (subst P (sym c.self.view_is) general) in
     let Q : AtomValue → Type 0 = λ a. IsAtomMeasure (apply_atom (u c.args.space) a) (record { weight = c.saturating_add.result; depth = c.in_ok-all.all.depth; ground = c.in_ok-all.all.ground }) in
     subst Q c.atom.view_is (record { weight = omega (arith, c.saturating_add.ensures, all.weight); depth = all.depth; ground = all.ground })

@@ -15,12 +15,12 @@ pub invariant_of-self : goal.invariant_of-self
 invariant_of-self c =
     let lt : c.args.mark < length c.self.inside.steps.items = omega (arith, c.if-mark-len.true, c.len.ensures) in
     let at : slice_get c.self.inside.steps.items c.args.mark ≡ Some c.index-step.result.now = slice_get_read c.self.inside.steps.items (length c.self.inside.steps.items) c.args.mark c.index-step.result.now refl lt c.index-step.ensures in
-    rw (c.cut.ensures.nodes, c.truncate.ensures.items) (bound_less c.self.inside.arena.nodes.items c.self.inside.arena.links c.cut.new.self.links c.self.inside.steps.items c.args.mark c.index-step.result.now c.self.invariant at (rw c.cut.ensures.nodes at c.cut.ensures.arena) c.cut.ensures.links)
+    rw (c.cut.ensures.nodes, c.truncate.ensures.items) (bound_less c.self.inside.arena.nodes c.self.inside.arena.links c.cut.new.self.links c.self.inside.steps.items c.args.mark c.index-step.result.now c.self.invariant at (rw c.cut.ensures.nodes at c.cut.ensures.arena) c.cut.ensures.links)
 
 pub returns-then-mark-len : goal.returns-then-mark-len
 returns-then-mark-len c =
     let lt : c.args.mark < length c.self.inside.steps.items = omega (arith, c.if-mark-len.true, c.len.ensures) in
     let at : slice_get c.self.inside.steps.items c.args.mark ≡ Some c.index-step.result.now = slice_get_read c.self.inside.steps.items (length c.self.inside.steps.items) c.args.mark c.index-step.result.now refl lt c.index-step.ensures in
-    let view : equations_of c.cut.new.self.nodes.items c.truncate.new.self.items ≡ take c.args.mark (equations_of c.self.inside.arena.nodes.items c.self.inside.steps.items) =
-    rw (c.cut.ensures.nodes, c.truncate.ensures.items) (view_less c.self.inside.arena.nodes.items c.self.inside.arena.links c.cut.new.self.links c.self.inside.steps.items c.args.mark c.index-step.result.now c.self.invariant at (rw c.cut.ensures.nodes at c.cut.ensures.arena)) in
+    let view : equations_of c.cut.new.self.nodes c.truncate.new.self.items ≡ take c.args.mark (equations_of c.self.inside.arena.nodes c.self.inside.steps.items) =
+    rw (c.cut.ensures.nodes, c.truncate.ensures.items) (view_less c.self.inside.arena.nodes c.self.inside.arena.links c.cut.new.self.links c.self.inside.steps.items c.args.mark c.index-step.result.now c.self.invariant at (rw c.cut.ensures.nodes at c.cut.ensures.arena)) in
     view ∙ ap (take c.args.mark) c.self.view_is

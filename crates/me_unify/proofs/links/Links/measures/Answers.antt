@@ -1,4 +1,4 @@
-use Rattle.std.proofs.Common.{rules, arith, refl, ◌∙◌}
+use Rattle.std.proofs.Common.{refl, ◌∙◌}
 use Rattle.std.proofs.lemmas.List.{length-set}
 use Rattle.me_unify.proofs.Measures.{held_more, held_all}
 use Rattle.me_unify.proofs.links.Links.measures.Goals as goal

@@ -1,0 +1,2 @@
+pub mod AssertOrder
+pub mod AssertedEntries

@@ -1,0 +1,8 @@
+use Rattle.std.proofs.Common.{◌≡◌, ◌++◌, drop}
+use Rattle.cnf_text.specs.ClauseText.{barred_text, clause_text}
+use Rattle.cnf_text.proofs.clause.push_clause.Given as goal
+
+-- What is printed and what is left give the whole.
+abbrev pub invariant-loop-literal : goal.invariant-loop-literal
+invariant-loop-literal l =
+    l.out.items ++ barred_text l.signature (drop l.literal-index l.others) ≡ l.fn.out.items ++ clause_text l.signature l.literals

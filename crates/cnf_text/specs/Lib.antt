@@ -1,0 +1,2 @@
+pub mod ClauseText
+pub mod LabelText

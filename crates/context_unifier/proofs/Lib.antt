@@ -1,0 +1,7 @@
+pub mod Ahead
+pub mod Prefixes
+pub mod Produced
+pub mod Remains
+pub mod Steps
+pub mod StepsLeft
+pub mod Unifiers

@@ -1,0 +1,10 @@
+pub mod Adding
+pub mod Bridge
+pub mod CanonicalMeasures
+pub mod ContextUnifiers
+pub mod Contradictions
+pub mod Fitting
+pub mod Measuring
+pub mod Positions
+pub mod Remaining
+pub mod Samples

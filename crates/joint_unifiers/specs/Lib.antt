@@ -1,0 +1,6 @@
+pub mod ClauseEquations
+pub mod ClauseUnifiers
+pub mod Contradiction
+pub mod Measured
+pub mod Places
+pub mod Samples

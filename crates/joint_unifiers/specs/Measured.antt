@@ -1,0 +1,23 @@
+-- What is counted of a clause's literals under what is most general for equations.
+use Rattle.std.specs.Prelude.{◌≡◌, ℕ, List, length, slice_get, Some}
+use Rattle.me_terms.specs.Substitutions.{Family}
+use Rattle.me_terms.specs.Unifier.{unified}
+use Rattle.me_terms.specs.declared.atom.Literal.{Literal}
+use Rattle.me_unify.specs.Equations.{Equation, IsMostGeneral}
+use Rattle.me_unify.specs.Measured.{IsAtomMeasure}
+use Rattle.me_unify.specs.declared.measure.Measure.{Measure}
+
+-- Each measure is that of the literal at its place.
+abbrev pub AreMeasures : List Equation → List Literal → List Measure → Type 0
+AreMeasures equations literals measures =
+    (place : ℕ) (l : Literal) (m : Measure) (u : Family) → slice_get literals place ≡ Some l → slice_get measures place ≡ Some m → IsMostGeneral equations u → IsAtomMeasure (unified u l).atom m
+
+-- There is a measure for each literal.
+pub record AreMeasured (equations : List Equation) (literals : List Literal) (measures : List Measure) : Type 0 where
+  pub each_place : length measures ≡ length literals
+  pub measured : AreMeasures equations literals measures
+
+-- The equations have a most general unifier, under which the literals have these measures.
+pub record IsMeasuredUnifier (equations : List Equation) (literals : List Literal) (measures : List Measure) : Type 0 where
+  pub family : (u : Family) × IsMostGeneral equations u
+  pub measured : AreMeasured equations literals measures

@@ -1,0 +1,131 @@
+//! The nodes of terms, with a look-up of those of variables.
+//!
+//! A contract sees a list of nodes. Each variable has one node there at most.
+ghost use Rattle.std.specs.Prelude.{◌≡◌, ◌-◌, ◌<◌, ◌∷◌, [], ◌++◌, ◌^◌, IfSome, OnOk, OnErr, None, Some, length, take, slice_get};
+ghost use Rattle.me_unify.specs.Nodes.{IsFresh};
+ghost use Rattle.me_unify.specs.Indexed.{IsNoted, IsForgotten};
+
+use crate::node::Node;
+use indexmap::IndexMap;
+use std::alloc::{AllocError, Global};
+use std::marker::Model;
+
+/// Nodes by their numbers, from 0.
+#[derive(Drop)]
+pub(crate) struct NodeList {
+    items: Vec<Node>,
+    places: IndexMap<(u32, u32), u32>,
+}
+
+impl Model for NodeList {
+    ghost use Rattle.std.specs.Prelude.{List};
+    ghost use Rattle.me_unify.specs.declared.node.Node.{Node};
+
+    ghost Value = { List Node };
+
+    ghost view = { λ n. n.items.items };
+
+    ghost use Rattle.me_unify.specs.Indexed.{IsIndexed};
+
+    ghost invariant = { λ n. IsIndexed n.items.items n.places.entries };
+}
+
+/// Notes where a node stands, if it is that of a variable.
+fn note(places: &mut IndexMap<(u32, u32), u32>, node: &Node, x: u32) -> Result<(), AllocError>
+    ensures ok { OnOk result (IsNoted node.now x places.old.entries places.new.entries) }
+    ensures err { OnErr result (places.new.entries ≡ places.old.entries) }
+{
+    match node {
+        Node::Var { space, var } => match places.insert((*space, *var), x) {
+            Ok(_) => Ok(()),
+            Err(_) => Err(AllocError),
+        },
+        Node::App { f: _, args: _ } => Ok(()),
+    }
+}
+
+/// Forgets where a node stood, if it was that of a variable.
+fn forget(places: &mut IndexMap<(u32, u32), u32>, node: Node)
+    ensures { IsForgotten node places.old.entries places.new.entries }
+{
+    match node {
+        Node::Var { space, var } => {
+            places.swap_remove(&(space, var));
+        }
+        Node::App { f: _, args: _ } => {}
+    }
+}
+
+impl NodeList {
+    /// No nodes. It takes no memory; later calls take theirs from `alloc`.
+    pub(crate) fn new(alloc: Global) -> Self
+        ensures { result ≡ [] }
+    {
+        NodeList {
+            items: Vec::new(alloc),
+            places: IndexMap::new(alloc),
+        }
+    }
+
+    /// The number of nodes.
+    pub(crate) fn len(&self) -> usize
+        ensures { result ≡ length self.now }
+    {
+        self.items.len()
+    }
+
+    /// The nodes in order.
+    pub(crate) fn as_slice(&self) -> &[Node]
+        ensures { result.now ≡ self.now }
+    {
+        self.items.as_slice()
+    }
+
+    /// The node of that number.
+    pub(crate) fn node(&self, x: u32) -> &Node
+        requires { x < length self.now }
+        ensures { slice_get self.now x ≡ Some result.now }
+    {
+        &self.items[x as usize]
+    }
+
+    /// The node of a variable. None where it has none.
+    pub(crate) fn find(&self, space: u32, var: u32) -> Option<u32>
+        ensures some { IfSome result (λ x. slice_get self.now x ≡ Some (Node.Var space var)) }
+        ensures none { result ≡ None → IsFresh self.now (Node.Var space var) }
+    {
+        self.places.get(&(space, var)).copied()
+    }
+
+    /// Puts a node at the end. A variable must be new. Where memory is out all is as before.
+    pub(crate) fn push(&mut self, node: Node) -> Result<(), AllocError>
+        requires short { length self.old < 2 ^ 32 }
+        requires fresh { IsFresh self.old node }
+        ensures ok { OnOk result (self.new ≡ self.old ++ node ∷ []) }
+        ensures err { OnErr result (self.new ≡ self.old) }
+    {
+        self.items.reserve(1)?;
+        let x = self.items.len() as u32;
+        note(&mut self.places, &node, x)?;
+        self.items.push_reserved(node);
+        Ok(())
+    }
+
+    /// Takes the last node away.
+    fn pop(&mut self)
+        ensures { self.new ≡ take (length self.old - 1) self.old }
+    {
+        if let Some(node) = self.items.pop() {
+            forget(&mut self.places, node);
+        }
+    }
+
+    /// Takes away all nodes but the first `size`.
+    pub(crate) fn truncate(&mut self, size: usize)
+        ensures { self.new ≡ take size self.old }
+    {
+        'nodes: while self.items.len() > size {
+            self.pop();
+        }
+    }
+}
