@@ -1,13 +1,10 @@
 -- An index of records, one record further, and what it tells of a path.
-use Rattle.std.proofs.Common.{◌≡◌, ℕ, ◌+◌, ◌<◌, Bool, true, false, cond, ◌⊎◌, inl, inr, List, length, get_or, Option, Some, None, IsSome, is_some, slice_get, nat_eq, eqb, below_more, refl, sym, subst, ap, ◌∙◌}
+use Rattle.std.proofs.Common.{◌≡◌, ℕ, ◌+◌, ◌<◌, Bool, true, false, cond, ◌⊎◌, inl, inr, List, Option, Some, IsSome, slice_get, nat_eq, below_more, refl, sym, subst, ap, ◌∙◌}
 use Rattle.std.specs.HashMap.{HashMap, get, Updates}
 use Rattle.std.proofs.lemmas.Bool.{eqb-true}
-use Rattle.std.proofs.lemmas.Option.{slice_get_read, slice_get_within}
 use Rattle.branch_core.specs.Paths.{Turns, code}
 use Rattle.branch_core.specs.Parts.{RecordValue}
-use Rattle.branch_core.specs.Whole.{IsIn}
-use Rattle.branch_core.specs.Assemble.{HasRecord}
-use Rattle.branch_core.specs.RecordIndex.{IndexesFirst, IsIndex}
+use Rattle.branch_core.specs.RecordIndex.{IndexesFirst}
 use Rattle.branch_core.proofs.PathOrder.{codes_injective}
 
 bool_cases : (b : Bool) → (b ≡ true) ⊎ (b ≡ false)

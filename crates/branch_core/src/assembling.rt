@@ -1,7 +1,7 @@
 //! Records put together to the one answer.
 //!
 //! The parts of each gift's record are put in the gift's place, and then the parts decide the answer.
-ghost use Rattle.std.specs.Prelude.{◌≡◌, ◌<◌, ◌++◌, ◌↔◌, ℕ, List, IfOk, OnOk, IsErr, IsTrue, MatchOption};
+ghost use Rattle.std.specs.Prelude.{◌≡◌, ◌<◌, ◌++◌, List, IfOk, OnOk, IsErr, MatchOption};
 ghost use Rattle.me_terms.specs.AnswerViews.{answer_value};
 ghost use Rattle.me_terms.specs.Measures.{GREATEST_U64};
 ghost use Rattle.branch_core.specs.Assemble.{CanAssemble, AnswersWhole, RecordsLackMemory, HasRecord, ArePartsOf};
@@ -25,7 +25,8 @@ pub fn assemble(alloc: Global, records: &Records, list_bound: u64) -> Result<Ans
     requires bound { list_bound < GREATEST_U64 }
     ensures answers { IfOk result (λ answer. AnswersWhole records.now.items list_bound (answer_value answer)) }
     ensures lacking { RecordsLackMemory records.now.items → IsErr result }
-    // What orderly runs of the core keep.
+    // The records that a closed orderly run of the core keeps are whole; in an orderly run each path is
+    // taken at most once, and no first exhausted leaf is cut.
     ensures kept { ClosedRunsKeepWhole }
     ensures spared { OrderlyRunsAreRight }
 {
