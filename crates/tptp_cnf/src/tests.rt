@@ -28,7 +28,7 @@ fn which_word(which: Which) -> &'static str {
 
 /// What is said of short bytes, and the place of the refused token.
 fn verdict(alloc: Global, bytes: &[u8]) -> (&'static str, u64) {
-    if bytes.len() > 1000 {
+    if bytes.len() > 10_000 {
         return ("too long for a test", 0);
     }
     match read_problem(alloc, bytes) {
@@ -167,21 +167,49 @@ fn notes_and_bad_tokens(rt: HostRuntime) {
     assert!(rt; other.is_none(), "{other:?}");
 }
 
-/// Whether 249 brackets before an atom are within the limit, and the 250th passes it.
-fn has_nesting_limit(alloc: Global) -> Result<bool, Fail> {
-    let mut bytes = Vec::from_slice(alloc, b"cnf(a,axiom,".as_slice())?;
-    for _ in 0..249 {
-        bytes.push(b'(')?;
+/// What is said of a text with a part that stands in it so often.
+fn verdict_of_repeated(
+    alloc: Global,
+    head: &[u8],
+    part: &[u8],
+    count: u32,
+    tail: &[u8],
+) -> Result<(&'static str, u64), Fail> {
+    let mut bytes = Vec::from_slice(alloc, head)?;
+    for _ in 0..count {
+        bytes.extend_from_slice(part)?;
     }
-    let within = verdict(alloc, &bytes);
-    bytes.push(b'(')?;
-    let passed = verdict(alloc, &bytes);
-    Ok(within == ("syntax", 261) && passed == ("limit nesting", 261))
+    bytes.extend_from_slice(tail)?;
+    Ok(verdict(alloc, &bytes))
 }
 
 #[test]
-fn nesting(rt: HostRuntime) -> Result<(), Fail> {
-    assert!(rt; has_nesting_limit(rt.alloc())?);
+fn nesting_limit(rt: HostRuntime) -> Result<(), Fail> {
+    let alloc = rt.alloc();
+    let within = verdict_of_repeated(alloc, b"cnf(a,axiom,", b"(", 249, b"")?;
+    let passed = verdict_of_repeated(alloc, b"cnf(a,axiom,", b"(", 250, b"")?;
+    assert_eq!(rt; within, ("syntax", 261));
+    assert_eq!(rt; passed, ("limit nesting", 261));
+    Ok(())
+}
+
+#[test]
+fn argument_limit(rt: HostRuntime) -> Result<(), Fail> {
+    let alloc = rt.alloc();
+    let within = verdict_of_repeated(alloc, b"cnf(a,axiom,p(", b"a,", 63, b"a)).")?;
+    let passed = verdict_of_repeated(alloc, b"cnf(a,axiom,p(", b"a,", 64, b"a)).")?;
+    assert_eq!(rt; within, ("read", 0));
+    assert_eq!(rt; passed, ("limit arguments", 142));
+    Ok(())
+}
+
+#[test]
+fn literal_limit(rt: HostRuntime) -> Result<(), Fail> {
+    let alloc = rt.alloc();
+    let within = verdict_of_repeated(alloc, b"cnf(a,axiom,", b"p|", 4095, b"p).")?;
+    let passed = verdict_of_repeated(alloc, b"cnf(a,axiom,", b"p|", 4096, b"p).")?;
+    assert_eq!(rt; within, ("read", 0));
+    assert_eq!(rt; passed, ("limit literals", 8204));
     Ok(())
 }
 
@@ -215,6 +243,17 @@ fn notes_and_quotes(rt: HostRuntime) -> Result<(), Fail> {
     assert_eq!(rt; (constant_at(&problem, 2), problem.c0), (Some(1), 0));
     assert!(rt; is_function(&problem, 0, Form::Word, b"abc"));
     assert!(rt; is_function(&problem, 1, Form::Distinct, b"d"));
+    Ok(())
+}
+
+#[test]
+fn a_distinct_object_is_no_word(rt: HostRuntime) -> Result<(), Fail> {
+    let problem = read_problem(rt.alloc(), b"cnf(1,plain,p(\"a\",a,'a')).")?;
+    assert_eq!(rt;
+        (constant_at(&problem, 0), constant_at(&problem, 1)),
+        (Some(0), Some(1))
+    );
+    assert_eq!(rt; constant_at(&problem, 2), Some(1));
     Ok(())
 }
 
