@@ -1,0 +1,11 @@
+pub mod Solving
+pub mod AskedInstance
+pub mod Results
+pub mod Instances
+pub mod Listing
+pub mod Work
+pub mod Weights
+pub mod Loops
+pub mod Steps
+pub mod Answering
+pub mod Plain

@@ -1,0 +1,4 @@
+pub mod LeafRefuted
+pub mod Places
+pub mod Queue
+pub mod Work
