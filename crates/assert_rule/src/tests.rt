@@ -1,8 +1,9 @@
 //! What clauses of two literals assert by an entry against the first one.
-ghost use Rattle.std.specs.Prelude.{◌≡◌, ℕ, ◌∷◌, [], not, IfOk, IsTrue};
+ghost use Rattle.std.specs.Prelude.{◌≡◌, ℕ, ◌<◌, ◌-◌, ◌^◌, ◌∷◌, [], length, not, Some, IfOk, IsTrue};
 ghost use Rattle.me_terms.specs.Terms as tree;
 ghost use Rattle.me_terms.specs.Values.{EntryValue};
 ghost use Rattle.me_terms.specs.Context.{IsVisible};
+ghost use Rattle.me_terms.specs.Positions.{positions_of, AreOpposite};
 ghost use Rattle.me_terms.specs.Validity.{IsLawful};
 
 use crate::{assert_before, assert_of};
@@ -100,31 +101,47 @@ fn bounds() -> Bounds
     }
 }
 
-/// What ~p(X) | P(X) asserts for its second place by the entry p(X). It does not come before itself.
-#[tactic(auto, using(joint_unifiers::proofs::Samples::first_opposite))]
-fn asserted(alloc: Global, kind: Kind, pred: u32) -> Result<Option<Entry>, Fail> {
-    let context = example(alloc, kind)?;
-    let first = literal(alloc, false, 0)?;
-    if !is_opposite(&context, &first) {
-        return Err("opposite".into());
-    }
-    let clause = clause(alloc, first, literal(alloc, true, pred)?)?;
-    let tuple = one(alloc)?;
-    let best = assert_before(alloc, &clause, 0, 1, &tuple, &context, &bounds(), None)?;
-    let later = assert_before(
-        alloc,
-        &clause,
-        0,
-        1,
-        &tuple,
-        &context,
-        &bounds(),
-        best.as_ref(),
-    )?;
+/// What the clause asserts for its second place. It does not come before itself.
+fn entry_of(
+    alloc: Global,
+    clause: &Clause,
+    tuple: &Tuple,
+    context: &Context,
+) -> Result<Option<Entry>, Fail>
+    requires place { 1 < length clause.now.literals }
+    requires opposite { AreOpposite context.now clause.now.literals (positions_of (Some 1) tuple.now.items) }
+    requires few { length clause.now.literals < 2 ^ 32 - 1 }
+{
+    let bounds = bounds();
+    let best = assert_before(alloc, clause, 0, 1, tuple, context, &bounds, None)?;
+    let later = assert_before(alloc, clause, 0, 1, tuple, context, &bounds, best.as_ref())?;
     if later.is_some() {
         return Err("before itself".into());
     }
-    Ok(assert_of(alloc, &clause, 0, 1, &tuple, &context, &bounds())?)
+    Ok(assert_of(alloc, clause, 0, 1, tuple, context, &bounds)?)
+}
+
+#[tactic(auto, using(joint_unifiers::proofs::Samples::first_opposite))]
+fn with_entry(
+    alloc: Global,
+    context: &Context,
+    first: Literal,
+    second: Literal,
+) -> Result<Option<Entry>, Fail> {
+    if !is_opposite(context, &first) {
+        return Err("opposite".into());
+    }
+    let clause = clause(alloc, first, second)?;
+    let tuple = one(alloc)?;
+    entry_of(alloc, &clause, &tuple, context)
+}
+
+/// What ~p(X) | P(X) asserts by the entry p(X) of a kind.
+fn asserted(alloc: Global, kind: Kind, pred: u32) -> Result<Option<Entry>, Fail> {
+    let context = example(alloc, kind)?;
+    let first = literal(alloc, false, 0)?;
+    let second = literal(alloc, true, pred)?;
+    with_entry(alloc, &context, first, second)
 }
 
 /// Whether the entry is P(X) of that kind.
