@@ -1,11 +1,13 @@
 -- The closing instance, and the instance of an asserted entry, of a clause whose literals are at hand.
-use Rattle.std.proofs.Common.{◌≡◌, ℕ, ◌<◌, true, List, [], ◌∷◌, ◌++◌, length, get_or, slice_get, Option, Some, None, refl, sym, subst, ap, ◌∙◌}
+use Rattle.std.proofs.Common.{◌≡◌, ℕ, ◌<◌, ◌-◌, ◌^◌, true, List, [], ◌∷◌, ◌++◌, length, get_or, slice_get, Option, Some, None, refl, sym, subst, ap, ◌∙◌}
 use Rattle.std.proofs.lemmas.Option.{slice_get_within, get_or_from_slice_get}
 use Rattle.me_terms.specs.Variables.{are_ground}
 use Rattle.me_terms.specs.Substitutions.{Family}
 use Rattle.me_terms.specs.Values.{ProblemValue, ClauseValue}
 use Rattle.me_terms.specs.Context.{Context}
 use Rattle.me_terms.specs.Positions.{ClauseAt, positions_of}
+use Rattle.me_terms.specs.Validity.{IsValid, IsValidClause}
+use Rattle.me_laws.proofs.Lists.{all_at}
 use Rattle.me_terms.specs.Unifier.{IsUnifier}
 use Rattle.me_terms.specs.Close.{IsClose}
 use Rattle.me_terms.specs.ListedInstances.{constant, instance_of, IsClosingInstance, IsAskedInstance}
@@ -16,6 +18,14 @@ use Rattle.ground_refutation.specs.Places.{place_equations, asked_equations}
 use Rattle.ground_refutation.specs.Queue.{IsAskedFor}
 use Rattle.ground_refutation.proofs.Solving.{is_unifier, is_most_general, is_solvable}
 use Rattle.ground_refutation.proofs.AskedInstance as asked
+
+-- ---- the literals
+-- a clause of a valid problem has places of their own for its literals
+pub few_literals : (problem : ProblemValue) → IsValid problem → (c : ℕ) (ls : List Literal) → ((x : ClauseValue) → ClauseAt problem c x → ls ≡ x.literals) → (x : ClauseValue) → ClauseAt problem c x → length ls < 2 ^ 32 - 1
+few_literals problem valid c ls those x at =
+    let clause : IsValidClause problem.signature x = all_at (IsValidClause problem.signature) problem.clauses c x valid.clauses at in
+    let P : List Literal → Type 0 = λ z. length z < 2 ^ 32 - 1 in
+    subst P (sym (those x at)) clause.few_literals
 
 -- ---- the closing instance
 module _ (problem : ProblemValue) (context : Context) (c : ℕ) (ks : List (Option ℕ)) (ls : List Literal) (those : (x : ClauseValue) → ClauseAt problem c x → ls ≡ x.literals) where

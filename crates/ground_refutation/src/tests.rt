@@ -33,15 +33,14 @@ fn plain(alloc: Global, clause: u32) -> Result<Instance, AllocError>
     }
 }
 
-/// Whether the instance of that clause fits a list of weight 2.
-fn fits(alloc: Global, listing: &mut Listing, clause: u32) -> Result<bool, AllocError>
+/// Lists the literal p as an instance of a clause, within a bound of 2.
+fn put(alloc: Global, listing: &mut Listing, clause: u32) -> Result<(), Fail>
     requires { IsListing 2 listing.old.instances.keys listing.old.weight }
-    ensures { IfOk result (λ answer. answer ≡ true → IsListing 2 listing.new.instances.keys listing.new.weight) }
+    ensures { OnOk result (IsListing 2 listing.new.instances.keys listing.new.weight) }
 {
     match listing.add(plain(alloc, clause)?, 1, 2) {
-        Ok(()) => Ok(true),
-        Err(ListError::TooHeavy) => Ok(false),
-        Err(ListError::Memory) => Err(AllocError),
+        Ok(()) => Ok(()),
+        Err(_) => Err(Fail::from("too heavy")),
     }
 }
 
@@ -49,12 +48,11 @@ fn fits(alloc: Global, listing: &mut Listing, clause: u32) -> Result<bool, Alloc
 fn a_repeat_is_not_counted(rt: HostRuntime) -> Result<(), Fail> {
     let alloc = rt.alloc();
     let mut listing = Listing::new(alloc);
-    for clause in [0, 1, 0, 1] {
-        if !fits(alloc, &mut listing, clause)? {
-            return Err(Fail::from("too heavy"));
-        }
-    }
-    assert!(rt; !fits(alloc, &mut listing, 2)?);
+    put(alloc, &mut listing, 0)?;
+    put(alloc, &mut listing, 1)?;
+    put(alloc, &mut listing, 0)?;
+    let answer = listing.add(plain(alloc, 2)?, 1, 2);
+    assert!(rt; matches!(answer, Err(ListError::TooHeavy)));
     Ok(())
 }
 

@@ -10,7 +10,7 @@ use Rattle.ground_refutation.specs.Queue.{IsAskedFor}
 use Rattle.instance_lists.specs.declared.error.ListError.{ListError}
 use Rattle.instance_lists.specs.declared.error.ListError.TheVariants.{TooHeavy}
 use Rattle.ground_refutation.specs.declared.instance.Weighed.{Weighed}
-use Rattle.ground_refutation.proofs.Instances.{others_solvable, asked_solvable, asked_is}
+use Rattle.ground_refutation.proofs.Instances.{few_literals, others_solvable, asked_solvable, asked_is}
 use Rattle.ground_refutation.proofs.Results.{if_ok_map, if_err_map}
 use Rattle.ground_refutation.proofs.asked.asked_instance.Goals as goal
 
@@ -73,3 +73,8 @@ returns-clause-heavy g c =
     if_err_map c.instance_within.result P Q (λ e h is literals asked.
     subst R (ap (λ n. instance_of v.0 (λ x. constant n) ls) c0 ∙ asked_is c.args.problem.now context c.args.clause c.args.place ks g' ls own literals asked c.literals_of-literals.ensures c.index-literals-place.is v.0 most) (h is v.0 v.1))
     c.instance_within.ensures.heavy
+
+pub bind_all-requires-clause-few : goal.bind_all-requires-clause-few
+bind_all-requires-clause-few g c =
+    let asked = c.requires.asked.1.instance in
+    few_literals c.args.problem.now c.requires.valid c.args.clause c.literals_of-literals.result.now c.literals_of-literals.ensures asked.clause asked.clause_at

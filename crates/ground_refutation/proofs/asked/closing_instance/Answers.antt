@@ -11,7 +11,7 @@ use Rattle.ground_refutation.specs.Places.{place_equations}
 use Rattle.instance_lists.specs.declared.error.ListError.{ListError}
 use Rattle.instance_lists.specs.declared.error.ListError.TheVariants.{TooHeavy}
 use Rattle.ground_refutation.specs.declared.instance.Weighed.{Weighed}
-use Rattle.ground_refutation.proofs.Instances.{closing_solvable, closing_unifier, closing_is}
+use Rattle.ground_refutation.proofs.Instances.{few_literals, closing_solvable, closing_unifier, closing_is}
 use Rattle.ground_refutation.proofs.Results.{if_ok_map, if_err_map}
 use Rattle.ground_refutation.proofs.asked.closing_instance.Goals as goal
 
@@ -68,3 +68,8 @@ returns-clause-heavy g c =
     let own = closing_is c.args.problem.now context c.args.clause ks ls c.literals_of-literals.ensures tuple are close.2.clause close.2.clause_at most.0 most.1 mine (ap (λ n. instance_of most.0 (λ x. constant n) ls) c0) in
     subst R (closing_unique c.args.problem.now context c.args.clause tuple mine literals own closing) (h is most.0 there))
     c.instance_within.ensures.heavy
+
+pub bind_all-requires-clause-few : goal.bind_all-requires-clause-few
+bind_all-requires-clause-few g c =
+    let close = c.requires.close in
+    few_literals c.args.problem.now c.requires.valid c.args.clause c.literals_of-literals.result.now c.literals_of-literals.ensures close.2.clause close.2.clause_at
