@@ -1,0 +1,15 @@
+pub mod Answers
+pub mod AssertSteps
+pub mod ClauseReads
+pub mod CloseSteps
+pub mod Codes
+pub mod Cursors
+pub mod FirstMet
+pub mod Keys
+pub mod NextSteps
+pub mod Samples
+pub mod SplitLooks
+pub mod SplitLoops
+pub mod SplitSteps
+pub mod Tuples
+pub mod Updating

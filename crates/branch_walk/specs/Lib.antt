@@ -1,0 +1,5 @@
+pub mod AssertSearches
+pub mod Best
+pub mod FewPlaces
+pub mod NextLaws
+pub mod SplitSearches
