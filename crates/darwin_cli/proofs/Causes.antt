@@ -12,14 +12,14 @@ use Rattle.tptp_grammar.specs.declared.refusal.Refusal.{Refusal as FileRefusal}
 use Rattle.tptp_grammar.specs.declared.refusal.Refusal.TheVariants as file
 use Rattle.tptp_cnf.specs.Files.{IsFile}
 use Rattle.tptp_cnf.specs.Causes.{RefusedAt}
-use Rattle.tptp_cnf.proofs.Causal.{one_cause, one_problem, refused_is_no_file}
+use Rattle.tptp_cnf.proofs.Causal.{one_cause, refused_is_no_file}
+use Rattle.me_terms.specs.AnswerViews.{answer_value}
 use Rattle.me_terms.specs.declared.answer.Answer.{Answer}
 use Rattle.szs_print.specs.AnswerText.{IsAnswerText}
-use Rattle.szs_print.specs.Printable.{IsPrintable}
 use Rattle.szs_print.specs.declared.refusal.Refusal.{Refusal}
-use Rattle.szs_print.specs.declared.refusal.Refusal.TheVariants.{Usage, NotYet, Syntax, Inappropriate, Limit, Length, Read, Memory}
+use Rattle.szs_print.specs.declared.refusal.Refusal.TheVariants.{Usage, Syntax, Inappropriate, Limit, Length, Read, Memory}
 use Rattle.darwin_cli.specs.AcceptedWords.{name_of, AreAccepted, shown_name}
-use Rattle.darwin_cli.specs.Outcome.{NeedsMore, IsFileCause, GaveAll, GaveTooMany, IsFileRefused, IsCause, IsAnswered, status_of}
+use Rattle.darwin_cli.specs.Outcome.{IsSure, IsFileCause, GaveAll, GaveTooMany, IsFileRefused, IsCause, IsAnswered, status_of}
 
 -- ---- what stands in the bytes
 
@@ -36,41 +36,27 @@ pub record ByGrammar (bytes : List ℕ) (status : ℕ) : Type 0 where
   pub refused : RefusedAt why at bytes
   pub status_is : status ≡ refused_with why
 
--- The problem is not solved so far, and has this status.
-pub record BySearch (bytes : List ℕ) (status : ℕ) : Type 0 where
-  pub problem : ProblemValue
-  pub means : IsFile bytes problem
-  pub more : NeedsMore problem
-  pub status_is : status ≡ 3
+by_grammar : (bytes : List ℕ) (r : Refusal) → IsFileCause bytes r → ByGrammar bytes (status_of r)
+by_grammar bytes Usage cause = absurd cause
+by_grammar bytes (Syntax at) cause = record { why = file.Syntax; at = at; refused = cause; status_is = refl }
+by_grammar bytes (Inappropriate what at) cause = record { why = file.Inappropriate what; at = at; refused = cause; status_is = refl }
+by_grammar bytes (Limit which at) cause = record { why = file.Limit which; at = at; refused = cause; status_is = refl }
+by_grammar bytes Length cause = absurd cause
+by_grammar bytes Read cause = absurd cause
+by_grammar bytes Memory cause = absurd cause
 
-by_part : (bytes : List ℕ) (r : Refusal) → IsFileCause bytes r → ByGrammar bytes (status_of r) ⊎ BySearch bytes (status_of r)
-by_part bytes Usage cause = absurd cause
-by_part bytes NotYet cause = inr (record { problem = cause.0; means = cause.1; more = cause.2; status_is = refl })
-by_part bytes (Syntax at) cause = inl (record { why = file.Syntax; at = at; refused = cause; status_is = refl })
-by_part bytes (Inappropriate what at) cause = inl (record { why = file.Inappropriate what; at = at; refused = cause; status_is = refl })
-by_part bytes (Limit which at) cause = inl (record { why = file.Limit which; at = at; refused = cause; status_is = refl })
-by_part bytes Length cause = absurd cause
-by_part bytes Read cause = absurd cause
-by_part bytes Memory cause = absurd cause
-
-same_by : (bytes : List ℕ) (m n : ℕ) → ByGrammar bytes m ⊎ BySearch bytes m → ByGrammar bytes n ⊎ BySearch bytes n → m ≡ n
-same_by bytes m n (inl p) (inl q) = p.status_is ∙ (ap refused_with (one_cause bytes p.why q.why p.at q.at p.refused q.refused).0 ∙ sym q.status_is)
-same_by bytes m n (inl p) (inr q) = absurd (refused_is_no_file bytes p.why p.at q.problem p.refused q.means)
-same_by bytes m n (inr p) (inl q) = absurd (refused_is_no_file bytes q.why q.at p.problem q.refused p.means)
-same_by bytes m n (inr p) (inr q) = p.status_is ∙ sym q.status_is
+same_by : (bytes : List ℕ) (m n : ℕ) → ByGrammar bytes m → ByGrammar bytes n → m ≡ n
+same_by bytes m n p q = p.status_is ∙ (ap refused_with (one_cause bytes p.why q.why p.at q.at p.refused q.refused).0 ∙ sym q.status_is)
 
 -- bytes are refused with one status
 same_status : (bytes : List ℕ) (r s : Refusal) → IsFileCause bytes r → IsFileCause bytes s → status_of r ≡ status_of s
-same_status bytes r s p q = same_by bytes (status_of r) (status_of s) (by_part bytes r p) (by_part bytes s q)
+same_status bytes r s p q = same_by bytes (status_of r) (status_of s) (by_grammar bytes r p) (by_grammar bytes s q)
 
-solved_by : (bytes : List ℕ) (problem : ProblemValue) (n : ℕ) → IsFile bytes problem → ¬ NeedsMore problem → ByGrammar bytes n ⊎ BySearch bytes n → ⊥
-solved_by bytes problem n means less (inl p) = refused_is_no_file bytes p.why p.at problem p.refused means
-solved_by bytes problem n means less (inr p) =
-    less (subst NeedsMore (one_problem bytes p.problem problem p.means means) p.more)
-
--- a file whose problem is solved is not refused for what stands in it
-not_refused : (bytes : List ℕ) (problem : ProblemValue) (r : Refusal) → IsFile bytes problem → ¬ NeedsMore problem → IsFileCause bytes r → ⊥
-not_refused bytes problem r means less cause = solved_by bytes problem (status_of r) means less (by_part bytes r cause)
+-- a file is not refused for what stands in it
+not_refused : (bytes : List ℕ) (problem : ProblemValue) (r : Refusal) → IsFile bytes problem → IsFileCause bytes r → ⊥
+not_refused bytes problem r means cause =
+    let p = by_grammar bytes r cause in
+    refused_is_no_file bytes p.why p.at problem p.refused means
 
 -- ---- what is written of them
 
@@ -81,7 +67,7 @@ if_ok (Err e) P Q f h = tt
 -- the text is that of an answer to the problem that the bytes mean
 abbrev pub IsSolvedAs : List ℕ → List ℕ → List ℕ → Type 0
 IsSolvedAs bytes name text =
-    (problem : ProblemValue) × (answer : Answer) × IsFile bytes problem × (¬ NeedsMore problem) × IsPrintable problem answer × IsAnswerText name problem answer text
+    (problem : ProblemValue) × (answer : Answer) × IsFile bytes problem × IsSure problem (answer_value answer) × IsAnswerText name problem answer text
 
 -- ---- what a source gave
 
@@ -119,7 +105,6 @@ module _ {S : Type 0} (left : S → Option (List ℕ)) (given : S → ℕ) (ende
   -- with bytes that are refused for what stands in them
   pub refused_status : (bytes : List ℕ) (due r : Refusal) → AreAccepted words → left old ≡ Some bytes → length bytes ≤ 67108864 → IsFileCause bytes due → IsCause left given ended faults words old new r → (status_of r ≡ status_of due) ⊎ (5 ≤ status_of r)
   refused_status bytes due Usage accepted told few is cause = absurd (cause accepted)
-  refused_status bytes due NotYet accepted told few is cause = inl (same_status bytes NotYet due (refused_for bytes NotYet told cause) is)
   refused_status bytes due (Syntax at) accepted told few is cause = inl (same_status bytes (Syntax at) due (refused_for bytes (Syntax at) told cause) is)
   refused_status bytes due (Inappropriate what at) accepted told few is cause = inl (same_status bytes (Inappropriate what at) due (refused_for bytes (Inappropriate what at) told cause) is)
   refused_status bytes due (Limit which at) accepted told few is cause = inl (same_status bytes (Limit which at) due (refused_for bytes (Limit which at) told cause) is)
@@ -128,32 +113,30 @@ module _ {S : Type 0} (left : S → Option (List ℕ)) (given : S → ℕ) (ende
   refused_status bytes due Memory accepted told few is cause = inr (omega arith)
 
   -- with a file whose problem is solved
-  pub file_status : (bytes : List ℕ) (problem : ProblemValue) (r : Refusal) → AreAccepted words → left old ≡ Some bytes → length bytes ≤ 67108864 → IsFile bytes problem → ¬ NeedsMore problem → IsCause left given ended faults words old new r → (status_of r ≡ 0) ⊎ (5 ≤ status_of r)
-  file_status bytes problem Usage accepted told few means less cause = absurd (cause accepted)
-  file_status bytes problem NotYet accepted told few means less cause = absurd (not_refused bytes problem NotYet means less (refused_for bytes NotYet told cause))
-  file_status bytes problem (Syntax at) accepted told few means less cause = absurd (not_refused bytes problem (Syntax at) means less (refused_for bytes (Syntax at) told cause))
-  file_status bytes problem (Inappropriate what at) accepted told few means less cause = absurd (not_refused bytes problem (Inappropriate what at) means less (refused_for bytes (Inappropriate what at) told cause))
-  file_status bytes problem (Limit which at) accepted told few means less cause = absurd (not_refused bytes problem (Limit which at) means less (refused_for bytes (Limit which at) told cause))
-  file_status bytes problem Length accepted told few means less cause = absurd (not_too_many bytes told few cause.1)
-  file_status bytes problem Read accepted told few means less cause = inr (omega arith)
-  file_status bytes problem Memory accepted told few means less cause = inr (omega arith)
+  pub file_status : (bytes : List ℕ) (problem : ProblemValue) (r : Refusal) → AreAccepted words → left old ≡ Some bytes → length bytes ≤ 67108864 → IsFile bytes problem → IsCause left given ended faults words old new r → (status_of r ≡ 0) ⊎ (5 ≤ status_of r)
+  file_status bytes problem Usage accepted told few means cause = absurd (cause accepted)
+  file_status bytes problem (Syntax at) accepted told few means cause = absurd (not_refused bytes problem (Syntax at) means (refused_for bytes (Syntax at) told cause))
+  file_status bytes problem (Inappropriate what at) accepted told few means cause = absurd (not_refused bytes problem (Inappropriate what at) means (refused_for bytes (Inappropriate what at) told cause))
+  file_status bytes problem (Limit which at) accepted told few means cause = absurd (not_refused bytes problem (Limit which at) means (refused_for bytes (Limit which at) told cause))
+  file_status bytes problem Length accepted told few means cause = absurd (not_too_many bytes told few cause.1)
+  file_status bytes problem Read accepted told few means cause = inr (omega arith)
+  file_status bytes problem Memory accepted told few means cause = inr (omega arith)
 
   -- with such a file, and no fault
-  pub complete_status : (bytes : List ℕ) (problem : ProblemValue) (r : Refusal) → AreAccepted words → left old ≡ Some bytes → length bytes ≤ 67108864 → IsFile bytes problem → ¬ NeedsMore problem → (Rose (faults old) (faults new) → ⊥) → IsCause left given ended faults words old new r → (status_of r ≡ 0) ⊎ (status_of r ≡ 7)
-  complete_status bytes problem Usage accepted told few means less quiet cause = absurd (cause accepted)
-  complete_status bytes problem NotYet accepted told few means less quiet cause = absurd (not_refused bytes problem NotYet means less (refused_for bytes NotYet told cause))
-  complete_status bytes problem (Syntax at) accepted told few means less quiet cause = absurd (not_refused bytes problem (Syntax at) means less (refused_for bytes (Syntax at) told cause))
-  complete_status bytes problem (Inappropriate what at) accepted told few means less quiet cause = absurd (not_refused bytes problem (Inappropriate what at) means less (refused_for bytes (Inappropriate what at) told cause))
-  complete_status bytes problem (Limit which at) accepted told few means less quiet cause = absurd (not_refused bytes problem (Limit which at) means less (refused_for bytes (Limit which at) told cause))
-  complete_status bytes problem Length accepted told few means less quiet cause = absurd (not_too_many bytes told few cause.1)
-  complete_status bytes problem Read accepted told few means less quiet cause = absurd (quiet cause.1)
-  complete_status bytes problem Memory accepted told few means less quiet cause = inr refl
+  pub complete_status : (bytes : List ℕ) (problem : ProblemValue) (r : Refusal) → AreAccepted words → left old ≡ Some bytes → length bytes ≤ 67108864 → IsFile bytes problem → (Rose (faults old) (faults new) → ⊥) → IsCause left given ended faults words old new r → (status_of r ≡ 0) ⊎ (status_of r ≡ 7)
+  complete_status bytes problem Usage accepted told few means quiet cause = absurd (cause accepted)
+  complete_status bytes problem (Syntax at) accepted told few means quiet cause = absurd (not_refused bytes problem (Syntax at) means (refused_for bytes (Syntax at) told cause))
+  complete_status bytes problem (Inappropriate what at) accepted told few means quiet cause = absurd (not_refused bytes problem (Inappropriate what at) means (refused_for bytes (Inappropriate what at) told cause))
+  complete_status bytes problem (Limit which at) accepted told few means quiet cause = absurd (not_refused bytes problem (Limit which at) means (refused_for bytes (Limit which at) told cause))
+  complete_status bytes problem Length accepted told few means quiet cause = absurd (not_too_many bytes told few cause.1)
+  complete_status bytes problem Read accepted told few means quiet cause = absurd (quiet cause.1)
+  complete_status bytes problem Memory accepted told few means quiet cause = inr refl
 
   -- an answer was given, so the bytes are not refused for what stands in them
   pub answered_is_not_refused : (bytes text : List ℕ) (due : Refusal) → left old ≡ Some bytes → IsAnswered left given ended faults words old new text → IsFileCause bytes due → ⊥
   answered_is_not_refused bytes text due told answered is =
       let P : List ℕ → Type 0 = λ xs. IsFile xs answered.problem in
-      not_refused bytes answered.problem due (subst P (same_bytes bytes answered.bytes told answered.all) answered.means) answered.solvable is
+      not_refused bytes answered.problem due (subst P (same_bytes bytes answered.bytes told answered.all) answered.means) is
 
   -- a source that was read to its end gave up all its bytes
   pub read_gave_all : (bytes : List ℕ) → IfSome (left old) (λ xs. bytes ≡ xs) → IsAtEnd (left new) → GaveFront (left old) (left new) (given old) (given new) → given new ≡ given old + length bytes → ended new → length bytes ≤ 67108864 → GaveAll left given ended faults words old new bytes
@@ -162,7 +145,6 @@ module _ {S : Type 0} (left : S → Option (List ℕ)) (given : S → ℕ) (ende
 
   of_file : (bytes : List ℕ) (r : Refusal) → AreAccepted words → GaveAll left given ended faults words old new bytes → IsFileCause bytes r → IsCause left given ended faults words old new r
   of_file bytes Usage accepted all cause = absurd cause
-  of_file bytes NotYet accepted all cause = (accepted, (bytes, all, cause))
   of_file bytes (Syntax at) accepted all cause = (accepted, (bytes, all, cause))
   of_file bytes (Inappropriate what at) accepted all cause = (accepted, (bytes, all, cause))
   of_file bytes (Limit which at) accepted all cause = (accepted, (bytes, all, cause))
@@ -190,7 +172,6 @@ module _ {S : Type 0} (left : S → Option (List ℕ)) (given : S → ℕ) (ende
     answer = solved.1;
     all = all;
     means = solved.2;
-    solvable = solved.3;
-    known = solved.4;
-    text_is = subst (λ (n : List ℕ). IsAnswerText n solved.0 solved.1 text) (sym (ap shown_name named)) solved.5;
+    sure = solved.3;
+    text_is = subst (λ (n : List ℕ). IsAnswerText n solved.0 solved.1 text) (sym (ap shown_name named)) solved.4;
   }

@@ -1,44 +1,41 @@
 -- What the program owes to what it is given: which refusals have their cause, and which answers are true of the file.
-use Rattle.std.specs.Prelude.{◌≡◌, ◌⊎◌, ◌+◌, ◌<◌, ◌≤◌, ℕ, List, length, Option, IfSome, Bool, not, eqb, IsTrue}
-use Rattle.std.specs.List.{Any, list_any, sum_by}
+use Rattle.std.specs.Prelude.{◌≡◌, ◌⊎◌, ◌+◌, ◌<◌, ◌≤◌, ℕ, false, List, length, Option, IfSome}
 use Rattle.std.specs.Global.{Global}
 use Rattle.std.specs.Io.KnownBytes.{Consumes, IsAtEnd, Appends}
 use Rattle.std.specs.declared.string.String.{String}
 use Rattle.me_io.specs.Source.{Rose}
-use Rattle.me_terms.specs.Terms.{AtomValue}
-use Rattle.me_terms.specs.Variables.{count}
-use Rattle.me_terms.specs.Measures.{literals_weight}
-use Rattle.me_terms.specs.Values.{ClauseValue, ProblemValue}
+use Rattle.me_terms.specs.Values.{ProblemValue}
+use Rattle.me_terms.specs.Answer.{AnswerValue, HasAnswer}
+use Rattle.me_terms.specs.AnswerViews.{answer_value}
 use Rattle.me_terms.specs.declared.answer.Answer.{Answer}
+use Rattle.me_terms.specs.declared.bounds.Bounds.{Bounds}
+use Rattle.me_counting.specs.FunctionFree.{IsFunctionFree, IsRoomy}
+use Rattle.darwin_solve.specs.Evidence.{HasRefutation, HasModel, MeetsOnlyList}
 use Rattle.tptp_grammar.specs.declared.refusal.Refusal.TheVariants as file
 use Rattle.tptp_cnf.specs.Files.{IsFile}
 use Rattle.tptp_cnf.specs.Causes.{RefusedAt}
 use Rattle.tptp_cnf.specs.declared.error.CnfError.{CnfError}
 use Rattle.tptp_cnf.specs.declared.error.CnfError.TheVariants as error
 use Rattle.szs_print.specs.AnswerText.{IsAnswerText}
-use Rattle.szs_print.specs.Printable.{IsPrintable}
 use Rattle.szs_print.specs.RefusalText.{refusal_text}
 use Rattle.szs_print.specs.declared.refusal.Refusal.{Refusal}
-use Rattle.szs_print.specs.declared.refusal.Refusal.TheVariants.{Usage, NotYet, Syntax, Inappropriate, Limit, Length, Read, Memory}
+use Rattle.szs_print.specs.declared.refusal.Refusal.TheVariants.{Usage, Syntax, Inappropriate, Limit, Length, Read, Memory}
 use Rattle.darwin_cli.specs.AcceptedWords.{AreAccepted, name_shown}
 
--- The atom has arguments.
-abbrev pub takes_arguments : AtomValue → Bool
-takes_arguments a = not (eqb (count a.args) 0)
+-- The bounds within which the program searches.
+abbrev pub default_bounds : Bounds
+default_bounds = record { depth = 6; weight = 1000; literals = 2000; list = 10000000 }
 
--- An atom of the clause has arguments.
-abbrev pub HasArguments : ClauseValue → Type 0
-HasArguments clause = IsTrue (list_any (λ l. takes_arguments l.atom) clause.literals)
-
--- The problem is none that is solved so far: an atom has arguments, there are more than 1,999 predicates, or the clauses weigh more than 10,000,000.
-abbrev pub NeedsMore : ProblemValue → Type 0
-NeedsMore problem =
-    Any HasArguments problem.clauses ⊎ (1999 < length problem.signature.predicates) ⊎ (10000000 < sum_by (λ clause. literals_weight clause.literals) problem.clauses)
+-- The answer to the problem within these bounds, with what makes it sure: a list of ground instances of the clauses that no choice of truth values makes true, or a context that makes every ground instance of every clause true; and where there are no functions with arguments and the bounds are wide, no bound but that of the list is met.
+pub record IsSure (problem : ProblemValue) (reply : AnswerValue) : Type 0 where
+  pub is_answer : HasAnswer problem default_bounds false reply
+  pub refuted : HasRefutation problem default_bounds reply
+  pub model : HasModel problem reply
+  pub function_free : IsFunctionFree problem → IsRoomy problem default_bounds → MeetsOnlyList reply
 
 -- The bytes are refused for what stands in them.
 abbrev pub IsFileCause : List ℕ → Refusal → Type 0
 IsFileCause bytes Usage = ⊥
-IsFileCause bytes NotYet = (problem : ProblemValue) × IsFile bytes problem × NeedsMore problem
 IsFileCause bytes (Syntax at) = RefusedAt file.Syntax at bytes
 IsFileCause bytes (Inappropriate what at) = RefusedAt (file.Inappropriate what) at bytes
 IsFileCause bytes (Limit which at) = RefusedAt (file.Limit which) at bytes
@@ -56,7 +53,6 @@ told_as error.Memory = Memory
 -- The exit status of a refusal.
 abbrev pub status_of : Refusal → ℕ
 status_of Usage = 1
-status_of NotYet = 3
 status_of (Syntax at) = 2
 status_of (Inappropriate what at) = 3
 status_of (Limit which at) = 4
@@ -86,7 +82,6 @@ module _ {S : Type 0} (left : S → Option (List ℕ)) (given : S → ℕ) (ende
   -- The refusal has its cause.
   abbrev pub IsCause : Refusal → Type 0
   IsCause Usage = ¬ AreAccepted words
-  IsCause NotYet = IsFileRefused NotYet
   IsCause (Syntax at) = IsFileRefused (Syntax at)
   IsCause (Inappropriate what at) = IsFileRefused (Inappropriate what at)
   IsCause (Limit which at) = IsFileRefused (Limit which at)
@@ -102,8 +97,7 @@ module _ {S : Type 0} (left : S → Option (List ℕ)) (given : S → ℕ) (ende
     pub answer : Answer
     pub all : GaveAll bytes
     pub means : IsFile bytes problem
-    pub solvable : ¬ NeedsMore problem
-    pub known : IsPrintable problem answer
+    pub sure : IsSure problem (answer_value answer)
     pub text_is : IsAnswerText (name_shown words) problem answer text
 
   -- A refusal of this status has its cause, and its text was written to a sink, which held these bytes before and those after it.

@@ -4,7 +4,6 @@
 //! status but 7 has its cause, and what was written is known.
 #![tactic(auto)]
 
-mod search;
 mod top;
 mod words;
 

@@ -44,8 +44,7 @@ const NO_CLAUSE: &str = "% SZS status Satisfiable for stdin
 % SZS output end Model for stdin
 ";
 
-const FOUR: &str =
-    "cnf(c1,axiom,p|q). cnf(c2,axiom,p|~q). cnf(c3,axiom,~p|q). cnf(c4,axiom,~p|~q).";
+const FOUR: &str = "cnf(c1,axiom,p|q). cnf(c2,axiom,p|~q). cnf(c3,axiom,~p|q). cnf(c4,axiom,~p|~q).";
 
 const FOUR_REFUTED: &str = "% SZS status Unsatisfiable for stdin
 % SZS output start Refutation for stdin
@@ -63,6 +62,74 @@ cnf(e1,plain,p,universal).
 % SZS output end Model for stdin
 ";
 
+const ASSERT_THEN_SPLIT: &str = "cnf(c1,axiom,p(X)|q(X)). cnf(c2,axiom,~p(a)). cnf(c3,axiom,~q(b)).";
+
+const ASSERTED_AND_SPLIT: &str = "% SZS status Satisfiable for stdin
+% SZS output start Model for stdin
+% default false
+cnf(e1,plain,~p(a),universal).
+cnf(e2,plain,q(a),universal).
+cnf(e3,plain,~q(b),universal).
+cnf(e4,plain,p(b),universal).
+cnf(e5,plain,p(X0),parametric).
+% SZS output end Model for stdin
+";
+
+const UNIVERSAL_CLOSES: &str = "cnf(c1,axiom,p(X)|q(X)). cnf(c2,axiom,~p(X)). cnf(c3,axiom,~q(a)).";
+
+const CLOSED_BY_UNIVERSAL: &str = "% SZS status Unsatisfiable for stdin
+% SZS output start Refutation for stdin
+cnf(i1,plain,~q(a),instance(3,c3)).
+cnf(i2,plain,p(a) | q(a),instance(1,c1)).
+cnf(i3,plain,~p(a),instance(2,c2)).
+% SZS output end Refutation for stdin
+";
+
+const DIAGONAL: &str = "cnf(c1,axiom,p(X,Y)|q(X,Y)). cnf(c2,axiom,~p(X,X)|s). cnf(c3,axiom,~q(X,X)|s). cnf(c4,axiom,~s|t). cnf(c5,axiom,~s|~t).";
+
+const CLOSED_AT_NEW_CONSTANT: &str = "% SZS status Unsatisfiable for stdin
+% SZS output start Refutation for stdin
+cnf(i1,plain,~s | ~t,instance(5,c5)).
+cnf(i2,plain,~p(c0,c0) | s,instance(2,c2)).
+cnf(i3,plain,~s | t,instance(4,c4)).
+cnf(i4,plain,~q(c0,c0) | s,instance(3,c3)).
+cnf(i5,plain,p(c0,c0) | q(c0,c0),instance(1,c1)).
+% SZS output end Refutation for stdin
+";
+
+const QUOTED: &str = "cnf(a,axiom,(~ (p('abc',abc,\"d\"))),file('x.p',a),[status(thm)]).";
+
+const QUOTED_MODEL: &str = "% SZS status Satisfiable for stdin
+% SZS output start Model for stdin
+% default false
+cnf(e1,plain,~p(abc,abc,\"d\"),universal).
+% SZS output end Model for stdin
+";
+
+const OPEN_ATOM: &str = "cnf(c1,axiom,p(X)).";
+
+const OPEN_MODEL: &str = "% SZS status Satisfiable for stdin
+% SZS output start Model for stdin
+% default false
+cnf(e1,plain,p(X0),universal).
+% SZS output end Model for stdin
+";
+
+const EVER_DEEPER: &str = "cnf(c1,axiom,p(a)). cnf(c2,axiom,~p(X)|p(f(X))).";
+
+const TOO_DEEP: &str = "% SZS status GaveUp for stdin
+% reason depth
+";
+
+const AGAINST_GROUND: &str = "cnf(c1,axiom,p(X)). cnf(c2,axiom,~p(a)).";
+
+const CLOSED_AT_GROUND: &str = "% SZS status Unsatisfiable for stdin
+% SZS output start Refutation for stdin
+cnf(i1,plain,~p(a),instance(2,c2)).
+cnf(i2,plain,p(a),instance(1,c1)).
+% SZS output end Refutation for stdin
+";
+
 const FALSE_ALONE: &str = "% SZS status Unsatisfiable for stdin
 % SZS output start Refutation for stdin
 cnf(i1,plain,$false,instance(1,e)).
@@ -75,24 +142,52 @@ const NAMED: &str = "% SZS status Satisfiable for x
 % SZS output end Model for x
 ";
 
-#[test]
-fn answers_are_written(rt: HostRuntime) -> Result<(), Fail> {
-    let alloc = rt.alloc();
-    for (text, expected) in [
-        (CONTRADICTION, REFUTATION),
-        ("", NO_CLAUSE),
-        (FOUR, FOUR_REFUTED),
-        ("cnf(c1,axiom,p|q).", CHOSEN),
-        ("cnf(e,axiom,$false).", FALSE_ALONE),
-        (
-            "cnf(c1,axiom,p|$true). cnf(c2,axiom,~$false). cnf(c3,axiom,p|$false).",
-            CHOSEN,
-        ),
-    ] {
-        let (status, written) = ran(alloc, &["darwin"], text)?;
-        assert_eq!(rt; status, 0);
-        assert_eq!(rt; written.as_slice(), expected.as_bytes());
+/// The first file of the table that is not answered as it should be.
+fn first_other<'a>(alloc: Global, table: &[(&'a str, &'a str)]) -> Result<Option<&'a str>, Fail> {
+    for (text, expected) in table {
+        let (status, written) = ran(alloc, &["darwin"], *text)?;
+        if status != 0 || written.as_slice() != expected.as_bytes() {
+            return Ok(Some(*text));
+        }
     }
+    Ok(None)
+}
+
+#[test]
+fn clauses_without_arguments_are_answered(rt: HostRuntime) -> Result<(), Fail> {
+    let other = first_other(
+        rt.alloc(),
+        &[
+            (CONTRADICTION, REFUTATION),
+            ("", NO_CLAUSE),
+            (FOUR, FOUR_REFUTED),
+            ("cnf(c1,axiom,p|q).", CHOSEN),
+            ("cnf(e,axiom,$false).", FALSE_ALONE),
+            (
+                "cnf(c1,axiom,p|$true). cnf(c2,axiom,~$false). cnf(c3,axiom,p|$false).",
+                CHOSEN,
+            ),
+        ],
+    )?;
+    assert!(rt; other.is_none(), "{other:?}");
+    Ok(())
+}
+
+#[test]
+fn clauses_with_arguments_are_answered(rt: HostRuntime) -> Result<(), Fail> {
+    let other = first_other(
+        rt.alloc(),
+        &[
+            (ASSERT_THEN_SPLIT, ASSERTED_AND_SPLIT),
+            (UNIVERSAL_CLOSES, CLOSED_BY_UNIVERSAL),
+            (DIAGONAL, CLOSED_AT_NEW_CONSTANT),
+            (QUOTED, QUOTED_MODEL),
+            (OPEN_ATOM, OPEN_MODEL),
+            (EVER_DEEPER, TOO_DEEP),
+            (AGAINST_GROUND, CLOSED_AT_GROUND),
+        ],
+    )?;
+    assert!(rt; other.is_none(), "{other:?}");
     Ok(())
 }
 
@@ -129,11 +224,6 @@ fn refusals_name_their_places(rt: HostRuntime) -> Result<(), Fail> {
             "cnf(a,axiom,'p",
             2,
             "% SZS status SyntaxError for stdin\n% reason syntax at 12\n",
-        ),
-        (
-            "cnf(a,axiom,p(a)).",
-            3,
-            "% SZS status Inappropriate for stdin\n% reason notyet\n",
         ),
     ] {
         let (status, written) = ran(alloc, &["darwin"], text)?;

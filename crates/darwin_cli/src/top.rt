@@ -8,16 +8,17 @@ ghost use Rattle.me_io.specs.Source.{Rose};
 ghost use Rattle.me_io.specs.Sink.{AppendedFront};
 ghost use Rattle.me_terms.specs.Validity.{IsValid};
 ghost use Rattle.me_terms.specs.Values.{ProblemValue};
+ghost use Rattle.me_terms.specs.AnswerViews.{answer_value};
 ghost use Rattle.me_terms.specs.declared.answer.Answer.{Answer};
 ghost use Rattle.szs_print.specs.AnswerText.{IsAnswerText};
-ghost use Rattle.szs_print.specs.Printable.{IsName, IsPrintable};
+ghost use Rattle.szs_print.specs.Printable.{IsName};
 ghost use Rattle.szs_print.specs.declared.refusal.Refusal.{Refusal as RefusalValue};
 ghost use Rattle.tptp_cnf.specs.Files.{IsFile};
 ghost use Rattle.darwin_cli.specs.AcceptedWords.{AreAccepted};
-ghost use Rattle.darwin_cli.specs.Outcome.{NeedsMore, IsFileCause, IsCause, IsAnswered, IsRefused, IsDue, status_of as status_number, told_as};
+ghost use Rattle.darwin_cli.specs.Outcome.{IsSure, IsFileCause, IsCause, IsAnswered, IsRefused, IsDue, status_of as status_number, told_as};
 
-use crate::search::{needs_more, solve};
 use crate::words::{name_of, shown_name};
+use darwin_solve::solve_alone;
 use me_io::{ReadError, Sink, Source, read_all, write_all};
 use me_terms::{Bounds, Problem, Text};
 use std::alloc::{AllocError, Global};
@@ -35,7 +36,7 @@ const BOUNDS: Bounds = Bounds {
 ///
 /// `words` are the program's name and its arguments: none, or `--name` and the problem's name. The result
 /// is the exit status: 0 where an answer was written, 1 for words that are not accepted, 2 for a file
-/// that is refused by the grammar, 3 for one that lies outside of the profile or is not solved yet, 4 for
+/// that is refused by the grammar, 3 for one that lies outside of the profile, 4 for
 /// one that passes a limit, 5 for a fault of the source, 6 for a fault of the sink, and 7 for want of
 /// memory.
 pub fn run<S: Source, K: Sink>(
@@ -59,8 +60,8 @@ pub fn run<S: Source, K: Sink>(
     ensures too_long { AreAccepted words.now.items → S.given source.old + 67108864 < S.given source.new → (result ≡ 4) ⊎ (result ≡ 6) }
     // Of sources that tell their bytes.
     ensures refused_file { AreAccepted words.now.items → (bytes : List ℕ) (refusal : RefusalValue) → S.left source.old ≡ Some bytes → length bytes ≤ 67108864 → IsFileCause bytes refusal → (result ≡ status_number refusal) ⊎ (5 ≤ result) }
-    ensures file { AreAccepted words.now.items → (bytes : List ℕ) (problem : ProblemValue) → S.left source.old ≡ Some bytes → length bytes ≤ 67108864 → IsFile bytes problem → ¬ NeedsMore problem → (result ≡ 0) ⊎ (5 ≤ result) }
-    ensures complete { AreAccepted words.now.items → (bytes : List ℕ) (problem : ProblemValue) → S.left source.old ≡ Some bytes → length bytes ≤ 67108864 → IsFile bytes problem → ¬ NeedsMore problem → ¬ Rose (S.faults source.old) (S.faults source.new) → ¬ Rose (K.faults sink.old) (K.faults sink.new) → (result ≡ 0) ⊎ (result ≡ 7) }
+    ensures file { AreAccepted words.now.items → (bytes : List ℕ) (problem : ProblemValue) → S.left source.old ≡ Some bytes → length bytes ≤ 67108864 → IsFile bytes problem → (result ≡ 0) ⊎ (5 ≤ result) }
+    ensures complete { AreAccepted words.now.items → (bytes : List ℕ) (problem : ProblemValue) → S.left source.old ≡ Some bytes → length bytes ≤ 67108864 → IsFile bytes problem → ¬ Rose (S.faults source.old) (S.faults source.new) → ¬ Rose (K.faults sink.old) (K.faults sink.new) → (result ≡ 0) ⊎ (result ≡ 7) }
 {
     match answer(alloc, words, source) {
         Ok(text) => match write_all(sink, &text) {
@@ -81,7 +82,7 @@ fn status_of(refusal: &Refusal) -> u8
     match refusal {
         Refusal::Usage => 1,
         Refusal::Syntax { .. } => 2,
-        Refusal::Inappropriate { .. } | Refusal::NotYet => 3,
+        Refusal::Inappropriate { .. } => 3,
         Refusal::Limit { .. } | Refusal::Length => 4,
         Refusal::Read => 5,
         Refusal::Memory => 7,
@@ -111,16 +112,13 @@ fn answer<S: Source>(alloc: Global, words: &Vec<String>, source: &mut S) -> Resu
 fn solved(alloc: Global, name: &[u8], bytes: &[u8]) -> Result<Vec<u8>, Refusal>
     requires few { length bytes.now ≤ 67108864 }
     requires name { IsName name.now }
-    ensures answered { IfOk result (λ text. (problem : ProblemValue) × (answer : Answer) × IsFile bytes.now problem × (¬ NeedsMore problem) × IsPrintable problem answer × IsAnswerText name.now problem answer text.items) }
+    ensures answered { IfOk result (λ text. (problem : ProblemValue) × (answer : Answer) × IsFile bytes.now problem × IsSure problem (answer_value answer) × IsAnswerText name.now problem answer text.items) }
     ensures refused { IfErr result (λ refusal. (refusal ≡ Refusal.Memory) ⊎ IsFileCause bytes.now refusal) }
 {
     let problem = match read_problem(alloc, bytes) {
         Ok(problem) => problem,
         Err(error) => return Err(refusal_of(error)),
     };
-    if needs_more(&problem) {
-        return Err(Refusal::NotYet);
-    }
     match text_of(alloc, name, &problem) {
         Ok(text) => Ok(text),
         Err(_) => Err(Refusal::Memory),
@@ -143,9 +141,9 @@ fn refusal_of(error: CnfError) -> Refusal
 fn text_of(alloc: Global, name: &[u8], problem: &Problem) -> Result<Vec<u8>, AllocError>
     requires valid { IsValid problem.now }
     requires name { IsName name.now }
-    ensures { IfOk result (λ text. (answer : Answer) × IsPrintable problem.now answer × IsAnswerText name.now problem.now answer text.items) }
+    ensures { IfOk result (λ text. (answer : Answer) × IsSure problem.now (answer_value answer) × IsAnswerText name.now problem.now answer text.items) }
 {
-    let answer = solve(alloc, problem, &BOUNDS)?;
+    let answer = solve_alone(alloc, problem, &BOUNDS)?;
     print_answer(alloc, &text_from(alloc, name)?, problem, &answer)
 }
 

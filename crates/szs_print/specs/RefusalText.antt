@@ -6,12 +6,11 @@ use Rattle.tptp_grammar.specs.declared.refusal.Which.{Which}
 use Rattle.tptp_grammar.specs.declared.refusal.Which.TheVariants.{Clauses, Literals, Variables, Arguments, Nesting}
 use Rattle.szs_print.specs.StatusText.{status_line, reason_line}
 use Rattle.szs_print.specs.declared.refusal.Refusal.{Refusal}
-use Rattle.szs_print.specs.declared.refusal.Refusal.TheVariants.{Usage, NotYet, Syntax, Inappropriate, Limit, Length, Read, Memory}
+use Rattle.szs_print.specs.declared.refusal.Refusal.TheVariants.{Usage, Syntax, Inappropriate, Limit, Length, Read, Memory}
 
 -- The SZS word of a refusal.
 abbrev pub word_text : Refusal → List ℕ
 word_text Usage = codes "UsageError"
-word_text NotYet = codes "Inappropriate"
 word_text (Syntax at) = codes "SyntaxError"
 word_text (Inappropriate what at) = codes "Inappropriate"
 word_text (Limit which at) = codes "ResourceOut"
@@ -38,7 +37,6 @@ which_text Nesting = codes "limit nesting"
 -- The cause of a refusal.
 abbrev pub cause_text : Refusal → List ℕ
 cause_text Usage = codes "words"
-cause_text NotYet = codes "notyet"
 cause_text (Syntax at) = codes "syntax"
 cause_text (Inappropriate what at) = what_text what
 cause_text (Limit which at) = which_text which
@@ -49,7 +47,6 @@ cause_text Memory = codes "memory"
 -- The place that a refusal names.
 abbrev pub place_of : Refusal → Option ℕ
 place_of Usage = None
-place_of NotYet = None
 place_of (Syntax at) = Some at
 place_of (Inappropriate what at) = Some at
 place_of (Limit which at) = Some at

@@ -20,8 +20,6 @@ use tptp_grammar::{What, Which};
 pub enum Refusal {
     /// The words of the call are not accepted.
     Usage,
-    /// The file lies outside of what is answered so far, whether it is in the profile or not.
-    NotYet,
     /// The file is refused by the grammar.
     Syntax { at: u64 },
     /// The file asks for something outside of the profile.
@@ -77,7 +75,7 @@ impl Refusal {
         match self {
             Refusal::Usage => b"UsageError",
             Refusal::Syntax { .. } => b"SyntaxError",
-            Refusal::NotYet | Refusal::Inappropriate { .. } => b"Inappropriate",
+            Refusal::Inappropriate { .. } => b"Inappropriate",
             Refusal::Limit { .. } | Refusal::Length => b"ResourceOut",
             Refusal::Read => b"OSError",
             Refusal::Memory => b"MemoryOut",
@@ -91,7 +89,6 @@ impl Refusal {
     {
         match self {
             Refusal::Usage => b"words",
-            Refusal::NotYet => b"notyet",
             Refusal::Syntax { .. } => b"syntax",
             Refusal::Inappropriate { what, .. } => what_bytes(*what),
             Refusal::Limit { which, .. } => which_bytes(*which),
@@ -110,7 +107,7 @@ impl Refusal {
             | Refusal::Inappropriate { at, .. }
             | Refusal::Limit { at, .. } => Some(*at),
             Refusal::Length => Some(67_108_864),
-            Refusal::Usage | Refusal::NotYet | Refusal::Read | Refusal::Memory => None,
+            Refusal::Usage | Refusal::Read | Refusal::Memory => None,
         }
     }
 }

@@ -37,14 +37,10 @@ fn a_search_gives_up_at_a_bound(rt: HostRuntime) -> Result<(), Fail> {
 #[test]
 fn refusals_have_two_lines(rt: HostRuntime) -> Result<(), Fail> {
     let alloc = rt.alloc();
-    let table: [(Refusal, &[u8]); 8] = [
+    let table: [(Refusal, &[u8]); 7] = [
         (
             Refusal::Usage,
             b"% SZS status UsageError for n\n% reason words\n",
-        ),
-        (
-            Refusal::NotYet,
-            b"% SZS status Inappropriate for n\n% reason notyet\n",
         ),
         (
             Refusal::Syntax { at: 12 },

@@ -10,9 +10,9 @@ returns-in-Ok-write_refusal-clause-refused_file g c = λ accepted bytes due told
     rw c.status_of.ensures (refused_status g.S.Source.left g.S.Source.given g.S.Source.ended g.S.Source.faults c.args.words.now.items c.args.source.now c.answer.new.source bytes due c.in-Err.refusal accepted told few is c.in-Err.ensures.refused)
 
 pub returns-in-Ok-write_refusal-clause-file : goal.returns-in-Ok-write_refusal-clause-file
-returns-in-Ok-write_refusal-clause-file g c = λ accepted bytes problem told few means less.
-    rw c.status_of.ensures (file_status g.S.Source.left g.S.Source.given g.S.Source.ended g.S.Source.faults c.args.words.now.items c.args.source.now c.answer.new.source bytes problem c.in-Err.refusal accepted told few means less c.in-Err.ensures.refused)
+returns-in-Ok-write_refusal-clause-file g c = λ accepted bytes problem told few means.
+    rw c.status_of.ensures (file_status g.S.Source.left g.S.Source.given g.S.Source.ended g.S.Source.faults c.args.words.now.items c.args.source.now c.answer.new.source bytes problem c.in-Err.refusal accepted told few means c.in-Err.ensures.refused)
 
 pub returns-in-Ok-write_refusal-clause-complete : goal.returns-in-Ok-write_refusal-clause-complete
-returns-in-Ok-write_refusal-clause-complete g c = λ accepted bytes problem told few means less quiet still.
-    rw c.status_of.ensures (complete_status g.S.Source.left g.S.Source.given g.S.Source.ended g.S.Source.faults c.args.words.now.items c.args.source.now c.answer.new.source bytes problem c.in-Err.refusal accepted told few means less quiet c.in-Err.ensures.refused)
+returns-in-Ok-write_refusal-clause-complete g c = λ accepted bytes problem told few means quiet still.
+    rw c.status_of.ensures (complete_status g.S.Source.left g.S.Source.given g.S.Source.ended g.S.Source.faults c.args.words.now.items c.args.source.now c.answer.new.source bytes problem c.in-Err.refusal accepted told few means quiet c.in-Err.ensures.refused)
