@@ -1,0 +1,11 @@
+use Rattle.std.proofs.Common.{◌≤◌, length}
+use Rattle.darwin_solve.specs.Turns.{AreNotLeft}
+use Rattle.darwin_solve.proofs.Back.{IsBack}
+use Rattle.darwin_solve.proofs.search.Search.go_right.Given as goal
+
+abbrev pub invariant-back : goal.invariant-back
+invariant-back g l =
+    IsBack l.base (g.T.View.context l.initial.branch) (g.T.View.context l.branch)
+
+abbrev pub decreases-back : goal.decreases-back
+decreases-back g l = length (g.T.View.context l.branch)

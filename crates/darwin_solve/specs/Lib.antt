@@ -1,0 +1,5 @@
+pub mod Evidence
+pub mod Found
+pub mod Leaves
+pub mod Onward
+pub mod Turns
