@@ -7,7 +7,6 @@ pub mod Cursors
 pub mod FirstMet
 pub mod Keys
 pub mod NextSteps
-pub mod Samples
 pub mod SplitLooks
 pub mod SplitLoops
 pub mod SplitSteps

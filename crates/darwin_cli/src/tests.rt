@@ -44,7 +44,8 @@ const NO_CLAUSE: &str = "% SZS status Satisfiable for stdin
 % SZS output end Model for stdin
 ";
 
-const FOUR: &str = "cnf(c1,axiom,p|q). cnf(c2,axiom,p|~q). cnf(c3,axiom,~p|q). cnf(c4,axiom,~p|~q).";
+const FOUR: &str =
+    "cnf(c1,axiom,p|q). cnf(c2,axiom,p|~q). cnf(c3,axiom,~p|q). cnf(c4,axiom,~p|~q).";
 
 const FOUR_REFUTED: &str = "% SZS status Unsatisfiable for stdin
 % SZS output start Refutation for stdin
@@ -62,7 +63,8 @@ cnf(e1,plain,p,universal).
 % SZS output end Model for stdin
 ";
 
-const ASSERT_THEN_SPLIT: &str = "cnf(c1,axiom,p(X)|q(X)). cnf(c2,axiom,~p(a)). cnf(c3,axiom,~q(b)).";
+const ASSERT_THEN_SPLIT: &str =
+    "cnf(c1,axiom,p(X)|q(X)). cnf(c2,axiom,~p(a)). cnf(c3,axiom,~q(b)).";
 
 const ASSERTED_AND_SPLIT: &str = "% SZS status Satisfiable for stdin
 % SZS output start Model for stdin
@@ -85,7 +87,8 @@ cnf(i3,plain,~p(a),instance(2,c2)).
 % SZS output end Refutation for stdin
 ";
 
-const DIAGONAL: &str = "cnf(c1,axiom,p(X,Y)|q(X,Y)). cnf(c2,axiom,~p(X,X)|s). cnf(c3,axiom,~q(X,X)|s). cnf(c4,axiom,~s|t). cnf(c5,axiom,~s|~t).";
+const DIAGONAL: &str =
+    "cnf(c1,axiom,p(X,Y)|q(X,Y)). cnf(c2,axiom,~p(X,X)|s). cnf(c3,axiom,~q(X,X)|s). cnf(c4,axiom,~s|t). cnf(c5,axiom,~s|~t).";
 
 const CLOSED_AT_NEW_CONSTANT: &str = "% SZS status Unsatisfiable for stdin
 % SZS output start Refutation for stdin

@@ -8,4 +8,3 @@ pub mod Weights
 pub mod Loops
 pub mod Steps
 pub mod Answering
-pub mod Plain
