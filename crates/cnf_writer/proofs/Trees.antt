@@ -1,6 +1,7 @@
 -- Problems as the trees of the files that are written of them.
 use Rattle.std.proofs.Common.{◌≡◌, ◌≢◌, ◌≤◌, ℕ, zero, suc, ◌+◌, Bool, true, false, List, [], ◌∷◌, ◌++◌, map, Option, Some, None, refl, sym, ap, ◌∙◌, arith}
 use Rattle.std.proofs.lemmas.Bool.{eqb-true}
+use Rattle.std.proofs.lemmas.List.{map-append}
 use Rattle.std.specs.Prelude.{codes, decimal, slice_get}
 use Rattle.std.specs.List.{AllByRecursion}
 use Rattle.me_terms.specs.Labels.{IsReadableAs, IsFunctionForm, IsFunctionSymbol, IsPredicateSymbol}
@@ -13,7 +14,9 @@ use Rattle.me_terms.specs.declared.symbol.Form.{Form}
 use Rattle.me_terms.specs.declared.symbol.Form.TheVariants as form
 use Rattle.cnf_text.specs.LabelText.{is_lower_word}
 use Rattle.tptp_grammar.specs.Written.{Name, Bare, Quoted, WrittenTerm, Variable, Distinct, Apply, WrittenTerms, NoTerms, OneMore, WrittenAtom, Truth, Predicate, Sign, Positive, Negative, WrittenLiteral, WrittenLabel, Named, Numbered, NoNotes, WrittenFormula}
+use Rattle.tptp_grammar.specs.Limits.{with_variables}
 use Rattle.tptp_cnf.specs.Meaning.{word, distinct, symbol}
+use Rattle.tptp_cnf.proofs.Numbering.{texts-append}
 
 -- ---- trees
 
@@ -149,3 +152,10 @@ all_front P (x ∷ xs) ys h = (h.0, all_front P xs ys h.1)
 pub all_back : (P : ℕ → Type 0) (xs ys : List ℕ) → AllByRecursion P (xs ++ ys) → AllByRecursion P ys
 all_back P [] ys h = h
 all_back P (x ∷ xs) ys h = all_back P xs ys h.1
+
+-- the texts of variables
+abbrev pub names : List ℕ → List (List ℕ)
+names xs = map (λ x. variable_text x) xs
+
+pub with_names : (vs : List (List ℕ)) (xs ys : List ℕ) → with_variables vs (names (xs ++ ys)) ≡ with_variables (with_variables vs (names xs)) (names ys)
+with_names vs xs ys = ap (λ (x : List (List ℕ)). with_variables vs x) (map-append (λ x. variable_text x) xs ys) ∙ texts-append (names xs) (names ys) vs

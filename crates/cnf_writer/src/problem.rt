@@ -3,6 +3,7 @@
 //! A clause is written as one line, with its label and the role `axiom`.
 ghost use Rattle.std.specs.Prelude.{◌≡◌, ◌++◌, OnOk, IfOk};
 ghost use Rattle.cnf_writer.specs.ProblemText.{clause_line, clause_lines, problem_text};
+ghost use Rattle.tptp_cnf.specs.Files.{IsFile};
 ghost use Rattle.tptp_cnf.specs.Plain.{IsPlain};
 
 use cnf_text::{push_clause, push_label};
@@ -43,10 +44,12 @@ pub(crate) fn text_of(alloc: Global, p: &Problem) -> Result<Vec<u8>, AllocError>
     Ok(out)
 }
 
-/// The text of the plain problem, with one line for each clause.
+/// The text of the plain problem, with one line for each clause. It is a file that means this problem.
+#[tactic(auto, using(crate::proofs::Written::text_is_file))]
 pub fn write_problem(alloc: Global, p: &Problem) -> Result<Vec<u8>, AllocError>
     requires plain { IsPlain p.now }
     ensures text { IfOk result (λ text. text.items ≡ problem_text p.now) }
+    ensures means { IfOk result (λ text. IsFile text.items p.now) }
 {
     text_of(alloc, p)
 }
