@@ -1,0 +1,204 @@
+-- Bytes that are read as given tokens of a file.
+use Rattle.std.proofs.Common.{◌≡◌, ◌≢◌, ◌≤◌, ◌-◌, ◌+◌, ℕ, Bool, true, false, List, [], ◌∷◌, ◌++◌, length, refl, sym, ap, subst, ◌∙◌, append_assoc, arith}
+use Rattle.std.proofs.lemmas.Bool.Decides.{nat_tests}
+use Rattle.std.specs.Prelude.{◌==◌, ◌&&◌, ◌||◌, eqb, not, codes, if◌then◌else◌}
+use Rattle.std.specs.List.{list_all, flat_map}
+use Rattle.me_terms.specs.Labels.{is_digit, is_printable}
+use Rattle.cnf_text.specs.LabelText as label
+use Rattle.tptp_tokens.specs.Bytes.{is_blank, is_lower, is_word_byte}
+use Rattle.tptp_tokens.specs.Founds.{IsClosed}
+use Rattle.tptp_tokens.specs.Fronts.{Stops, IsAfter}
+use Rattle.tptp_tokens.specs.Gaps.{Piece, Blank, Line, LastLine, Block, IsPiece, IsGap}
+use Rattle.tptp_tokens.specs.Leads.{lead_of, sign_kind}
+use Rattle.tptp_tokens.specs.Numbers.{IsDigits, IsNumber, IsTail}
+use Rattle.tptp_tokens.specs.Quoted.{escaped, escaped_byte, escaped_if, is_escaped, unescaped}
+use Rattle.tptp_tokens.specs.Tokens.{TokenValue, PlacedToken, IsFirst, IsCutFrom, OpensComment, text_as}
+use Rattle.tptp_tokens.specs.declared.token.TokenKind.{TokenKind}
+use Rattle.tptp_tokens.specs.declared.token.TokenKind.TheVariants as kinds
+use Rattle.tptp_tokens.proofs.Firsts.{lower_first, upper_first, one_dollar_first, single_first, distinct_first, number_first, alone_other, sign_first}
+use Rattle.tptp_tokens.proofs.Leads.{lower_lead, digits_number}
+use Rattle.tptp_tokens.proofs.Numbers.{sign_empty, behind_other, fraction_none, power_other, exponent_none, tail_real, number}
+use Rattle.tptp_tokens.proofs.OneCut.{first_takes}
+use Rattle.tptp_tokens.proofs.Quotes.{unescaped-escaped, front_is}
+use Rattle.tptp_tokens.proofs.Runs.{heads, differ, all_first}
+use Rattle.tptp_grammar.specs.Terminals.{Terminal, terminal, terminals, LowerWord, SingleQuoted, Variable, Distinct, DollarWord, Digits}
+use Rattle.tptp_grammar.specs.Printed.{Printed, printed_terminals}
+
+-- the bytes begin with a gap and then a token that is this one, and rest comes after it
+pub record Next (bytes : List ℕ) (p : Printed) (rest : List ℕ) : Type 0 where
+  pub token : TokenValue
+  pub middle : List ℕ
+  pub is : terminal token ≡ p.terminal
+  pub gap : IsGap bytes middle
+  pub within : length middle ≤ length bytes
+  pub first : IsFirst token middle rest
+
+-- the bytes are these tokens, up to a gap at the end
+abbrev pub Reads : List ℕ → List Printed → Type 0
+Reads bytes [] = IsGap bytes []
+Reads bytes (p ∷ ps) = (rest : List ℕ) × Next bytes p rest × Reads rest ps
+
+pub record CutAs (at : ℕ) (bytes : List ℕ) (ps : List Printed) : Type 0 where
+  pub tokens : List PlacedToken
+  pub cut : IsCutFrom (record { at = at; bytes = bytes }) tokens
+  pub same : terminals tokens ≡ printed_terminals ps
+
+pub cut_as : (ps : List Printed) (at : ℕ) (bytes : List ℕ) → Reads bytes ps → CutAs at bytes ps
+cut_as [] at bytes h = record { tokens = []; cut = h; same = refl }
+cut_as (p ∷ ps) at bytes h =
+    let n = h.1 in
+    let lt = first_takes n.token n.middle h.0 n.first in
+    let more = cut_as ps (at + length bytes - length h.0) h.0 h.2 in
+    record {
+      tokens = (record { at = at + length bytes - length n.middle; token = n.token }) ∷ more.tokens;
+      cut = (
+        record { at = at + length bytes - length h.0; bytes = h.0 },
+        record { middle = n.middle; gap = n.gap; first = n.first; place = omega (arith, n.within); end = omega (arith, n.within, lt) },
+        more.cut,
+      );
+      same = ap (λ (x : Terminal). x ∷ terminals more.tokens) n.is ∙ ap (λ (x : List Terminal). p.terminal ∷ x) more.same;
+    }
+
+-- ---- gaps
+
+-- neither a blank nor a comment begins with the byte
+abbrev pub begins_token : ℕ → Bool
+begins_token b = not (is_blank b) && (not (b == 37) && not (b == 47))
+
+blank_begins : (c : ℕ) → is_blank c ≡ true → begins_token c ≡ false
+blank_begins c h = ap (λ (v : Bool). not v && (not (c == 37) && not (c == 47))) h
+
+no_piece : (b : ℕ) (rest : List ℕ) → begins_token b ≡ true → (piece : Piece) (after : List ℕ) → IsPiece piece (b ∷ rest) after → ⊥
+no_piece b rest h (Blank c) after k = differ begins_token b c (heads b c rest after k.0).0 h (blank_begins c k.1)
+no_piece b rest h (Line t) after k = differ begins_token b 37 (heads b 37 rest (t ++ 10 ∷ after) k.0).0 h refl
+no_piece b rest h (LastLine t) after k = differ begins_token b 37 (heads b 37 rest t k.0).0 h refl
+no_piece b rest h (Block t) after k = differ begins_token b 47 (heads b 47 rest (42 ∷ k.0) k.1).0 h refl
+
+no_gap : (b : ℕ) (rest : List ℕ) → begins_token b ≡ true → IsGap (b ∷ rest) (b ∷ rest)
+no_gap b rest h = ([], (refl, no_piece b rest h))
+
+empty_piece : (piece : Piece) (after : List ℕ) → IsPiece piece [] after → ⊥
+empty_piece (Blank c) after k = let e : [] ≡ c ∷ after = k.0 in cc
+empty_piece (Line t) after k = let e : [] ≡ 37 ∷ (t ++ 10 ∷ after) = k.0 in cc
+empty_piece (LastLine t) after k = let e : [] ≡ 37 ∷ t = k.0 in cc
+empty_piece (Block t) after k = let e : [] ≡ 47 ∷ 42 ∷ k.0 = k.1 in cc
+
+pub reads_nothing : Reads [] []
+reads_nothing = ([], (refl, empty_piece))
+
+blank_gap : (c : ℕ) (bytes middle : List ℕ) → is_blank c ≡ true → IsGap bytes middle → IsGap (c ∷ bytes) middle
+blank_gap c bytes middle h g = (Blank c ∷ g.0, (bytes, (refl, h), g.1))
+
+pub reads_blank : (c : ℕ) (bytes : List ℕ) (ps : List Printed) → is_blank c ≡ true → Reads bytes ps → Reads (c ∷ bytes) ps
+reads_blank c bytes [] h r = blank_gap c bytes [] h r
+reads_blank c bytes (p ∷ ps) h r =
+    let n = r.1 in
+    (r.0, record { token = n.token; middle = n.middle; is = n.is; gap = blank_gap c bytes n.middle h n.gap; within = omega (arith, n.within); first = n.first }, r.2)
+
+pub reads_apart : (u v rest : List ℕ) (ps : List Printed) → Reads (u ++ (v ++ rest)) ps → Reads ((u ++ v) ++ rest) ps
+reads_apart u v rest ps r = subst (λ (x : List ℕ). Reads x ps) (sym (append_assoc u v rest)) r
+
+-- ---- one token
+
+reads_token : (t : TokenValue) (p : Printed) (b : ℕ) (after rest : List ℕ) (ps : List Printed) → terminal t ≡ p.terminal → begins_token b ≡ true → IsFirst t (b ∷ after) rest → Reads rest ps → Reads (b ∷ after) (p ∷ ps)
+reads_token t p b after rest ps e h f r = (rest, record { token = t; middle = b ∷ after; is = e; gap = no_gap b after h; within = omega arith; first = f }, r)
+
+no_comment : (b : ℕ) (rest : List ℕ) → begins_token b ≡ true → OpensComment (b ∷ rest) → ⊥
+no_comment b rest h c = differ begins_token b 47 (heads b 47 rest (42 ∷ c.0) c.1).0 h refl
+
+pub reads_sign : (b : ℕ) (k : TokenKind) (p : Printed) (rest : List ℕ) (ps : List Printed) → lead_of b ≡ lead_of 40 → begins_token b ≡ true → k ≡ sign_kind b → (k ≡ kinds.Bad → ⊥) → terminal (record { kind = k; text = text_as k (b ∷ []) }) ≡ p.terminal → Reads rest ps → Reads (b ∷ rest) (p ∷ ps)
+reads_sign b k p rest ps lead h e n same r =
+    reads_token (record { kind = k; text = text_as k (b ∷ []) }) p b rest rest ps same h
+    (sign_first (b ∷ rest) b rest (b ∷ []) k refl (alone_other (b ∷ rest) b rest refl lead) (no_comment b rest h) e n refl) r
+
+lower_begins : (b : ℕ) → is_lower b ≡ true → begins_token b ≡ true
+lower_begins b h = grind (arith, nat_tests)
+
+digit_begins : (b : ℕ) → is_digit b ≡ true → begins_token b ≡ true
+digit_begins b h = grind (arith, nat_tests)
+
+pub reads_lower : (b : ℕ) (w rest : List ℕ) (p : Printed) (ps : List Printed) → is_lower b ≡ true → list_all is_word_byte w ≡ true → Stops is_word_byte rest → LowerWord (b ∷ w) ≡ p.terminal → Reads rest ps → Reads (b ∷ (w ++ rest)) (p ∷ ps)
+reads_lower b w rest p ps h k s e r =
+    reads_token (record { kind = kinds.LowerWord; text = b ∷ w }) p b (w ++ rest) rest ps e (lower_begins b h)
+    (lower_first (b ∷ (w ++ rest)) b (w ++ rest) (b ∷ w) rest refl (lower_lead b h) (w, record { parts = refl; each = k; stops = s }) refl) r
+
+pub reads_variable : (w rest : List ℕ) (p : Printed) (ps : List Printed) → list_all is_word_byte w ≡ true → Stops is_word_byte rest → Variable (88 ∷ w) ≡ p.terminal → Reads rest ps → Reads (88 ∷ (w ++ rest)) (p ∷ ps)
+reads_variable w rest p ps k s e r =
+    reads_token (record { kind = kinds.Variable; text = 88 ∷ w }) p 88 (w ++ rest) rest ps e refl
+    (upper_first (88 ∷ (w ++ rest)) 88 (w ++ rest) (88 ∷ w) rest refl refl (w, record { parts = refl; each = k; stops = s }) refl) r
+
+no_dollar : (x second : List ℕ) → 102 ∷ x ≡ 36 ∷ second → ⊥
+no_dollar x second e = differ (λ (v : ℕ). v == 102) 102 36 (heads 102 36 x second e).0 refl refl
+
+pub reads_false : (rest : List ℕ) (p : Printed) (ps : List Printed) → Stops is_word_byte rest → DollarWord (codes "$false") ≡ p.terminal → Reads rest ps → Reads (codes "$false" ++ rest) (p ∷ ps)
+reads_false rest p ps s e r =
+    reads_token (record { kind = kinds.DollarWord; text = codes "$false" }) p 36 (codes "false" ++ rest) rest ps e refl
+    (one_dollar_first (codes "$false" ++ rest) 36 (codes "false" ++ rest) (codes "$false") rest refl refl (λ second f. no_dollar (codes "alse" ++ rest) second f) (codes "false", record { parts = refl; each = refl; stops = s }) refl) r
+
+-- ---- quotes
+
+escaped_by : (u v : Bool) (b : ℕ) → (if u || v then 92 ∷ b ∷ [] else b ∷ []) ≡ escaped_if (v || u) b
+escaped_by true true b = refl
+escaped_by true false b = refl
+escaped_by false true b = refl
+escaped_by false false b = refl
+
+pub escaped_same : (q : ℕ) (text : List ℕ) → flat_map (label.escaped q) text ≡ escaped q text
+escaped_same q [] = refl
+escaped_same q (b ∷ text) =
+    ap (λ (x : List ℕ). x ++ flat_map (label.escaped q) text) (escaped_by (eqb b 92) (eqb b q) b)
+    ∙ ap (λ (x : List ℕ). escaped_byte q b ++ x) (escaped_same q text)
+
+quoted_is : (q : ℕ) (text rest : List ℕ) → label.quoted q text ++ rest ≡ q ∷ (escaped q text ++ q ∷ rest)
+quoted_is q text rest =
+    ap (λ (x : List ℕ). q ∷ x) (append_assoc (flat_map (label.escaped q) text) (q ∷ []) rest ∙ ap (λ (x : List ℕ). x ++ q ∷ rest) (escaped_same q text))
+
+closed : (q : ℕ) (text rest : List ℕ) → list_all is_printable text ≡ true → IsClosed q (escaped q text ++ q ∷ rest) (escaped q text) rest
+closed q text rest h = record { text = text; each = h; is = refl; parts = refl }
+
+some_escaped : (q : ℕ) (text : List ℕ) → text ≢ [] → escaped q text ≢ []
+some_escaped q text n e = n (sym (unescaped-escaped q text) ∙ ap unescaped e)
+
+pub reads_quoted : (text rest : List ℕ) (p : Printed) (ps : List Printed) → text ≢ [] → list_all is_printable text ≡ true → SingleQuoted text ≡ p.terminal → Reads rest ps → Reads (label.quoted 39 text ++ rest) (p ∷ ps)
+reads_quoted text rest p ps n h e r =
+    subst (λ (x : List ℕ). Reads x (p ∷ ps)) (sym (quoted_is 39 text rest))
+    (reads_token (record { kind = kinds.SingleQuoted; text = text }) p 39 (escaped 39 text ++ 39 ∷ rest) rest ps e refl
+    (subst (λ (x : List ℕ). IsFirst (record { kind = kinds.SingleQuoted; text = x }) (39 ∷ (escaped 39 text ++ 39 ∷ rest)) rest) (unescaped-escaped 39 text)
+    (single_first (39 ∷ (escaped 39 text ++ 39 ∷ rest)) 39 (escaped 39 text ++ 39 ∷ rest) (escaped 39 text) rest refl refl (closed 39 text rest h) (some_escaped 39 text n))) r)
+
+pub reads_distinct : (text rest : List ℕ) (p : Printed) (ps : List Printed) → list_all is_printable text ≡ true → Distinct text ≡ p.terminal → Reads rest ps → Reads (label.quoted 34 text ++ rest) (p ∷ ps)
+reads_distinct text rest p ps h e r =
+    subst (λ (x : List ℕ). Reads x (p ∷ ps)) (sym (quoted_is 34 text rest))
+    (reads_token (record { kind = kinds.Distinct; text = text }) p 34 (escaped 34 text ++ 34 ∷ rest) rest ps e refl
+    (subst (λ (x : List ℕ). IsFirst (record { kind = kinds.Distinct; text = x }) (34 ∷ (escaped 34 text ++ 34 ∷ rest)) rest) (unescaped-escaped 34 text)
+    (distinct_first (34 ∷ (escaped 34 text ++ 34 ∷ rest)) 34 (escaped 34 text ++ 34 ∷ rest) (escaped 34 text) rest refl refl (closed 34 text rest h))) r)
+
+-- ---- digits before a comma
+
+comma_not : (n : ℕ) (more x : List ℕ) → (n == 44) ≡ false → 44 ∷ more ≡ n ∷ x → ⊥
+comma_not n more x f e = differ (λ (v : ℕ). v == 44) 44 n (heads 44 n more x e).0 refl f
+
+no_tail : (more : List ℕ) → IsAfter IsTail (44 ∷ more) (44 ∷ more)
+no_tail more =
+    let r : List ℕ = 44 ∷ more in
+    tail_real r r r (behind_other 47 r (λ x e. comma_not 47 more x refl e)) (fraction_none r (behind_other 46 r (λ x e. comma_not 46 more x refl e)))
+    (exponent_none r (power_other 101 r (λ x e. comma_not 101 more x refl e)) (power_other 69 r (λ x e. comma_not 69 more x refl e)))
+
+digit_not : (d n : ℕ) (x y : List ℕ) → is_digit d ≡ true → is_digit n ≡ false → d ∷ x ≡ n ∷ y → ⊥
+digit_not d n x y h f e = differ is_digit d n (heads d n x y e).0 h f
+
+is_number : (d : ℕ) (ds more : List ℕ) → IsDigits (d ∷ ds) → IsAfter IsNumber ((d ∷ ds) ++ 44 ∷ more) (44 ∷ more)
+is_number d ds more h =
+    let bytes : List ℕ = d ∷ (ds ++ 44 ∷ more) in
+    let digit = (all_first is_digit d ds h.1).0 in
+    number bytes bytes (44 ∷ more) (44 ∷ more)
+    (sign_empty bytes (λ x e. digit_not d 43 (ds ++ 44 ∷ more) x digit refl e) (λ x e. digit_not d 45 (ds ++ 44 ∷ more) x digit refl e))
+    (d ∷ ds, record { parts = refl; each = h.1; stops = refl }, h)
+    (no_tail more)
+
+pub reads_digits : (text more : List ℕ) (p : Printed) (ps : List Printed) → IsDigits text → Digits text ≡ p.terminal → Reads (44 ∷ more) ps → Reads (text ++ 44 ∷ more) (p ∷ ps)
+reads_digits [] more p ps h e r = absurd (h.0 refl)
+reads_digits (d ∷ ds) more p ps h e r =
+    reads_token (record { kind = kinds.Digits; text = d ∷ ds }) p d (ds ++ 44 ∷ more) (44 ∷ more) ps e (digit_begins d (all_first is_digit d ds h.1).0)
+    (number_first (d ∷ (ds ++ 44 ∷ more)) (d ∷ ds) (44 ∷ more) kinds.Digits (is_number d ds more h) (sym (front_is (d ∷ (ds ++ 44 ∷ more)) (d ∷ ds) (44 ∷ more) refl))
+    (sym (ap (λ (v : Bool). if v then kinds.Digits else kinds.Number) h.1))) r
