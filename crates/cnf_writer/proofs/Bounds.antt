@@ -117,10 +117,11 @@ module _ (signature : SignatureValue) (lawful : LawfulSignature signature) (few 
     arguments_fine ends (Cons t ts) c l d vs ps a k b v h =
         let parts = both_parts (is_known signature t) (are_known signature ts) k in
         let us : List ℕ = term_variables t in
-        let ws : List ℕ = variables_of ts in
-        (fine (spot c l vs d) (as_part OpenArguments OpenRound) (λ e. never e) (λ e. never e) refl (few_known vs (us ++ ws) v) (λ e. omega (arith, b, some_depth t)) (λ e. never e),
-        term_fine 1 t c l (suc d) vs (others_then ends 1 (terms_tree signature.functions ts) ps) (omega arith) parts.0 (omega (arith, b)) (few_front vs us ws v)
-        (others_fine ends 1 ts c l d (after vs us) ps (omega (arith, a)) parts.1 (omega (arith, b)) (few_back vs us ws v) (fine_back c l d vs us ws ps h)))
+        let ws : List ℕ = variables_of ts in (
+          fine (spot c l vs d) (as_part OpenArguments OpenRound) (λ e. never e) (λ e. never e) refl (few_known vs (us ++ ws) v) (λ e. omega (arith, b, some_depth t)) (λ e. never e),
+          term_fine 1 t c l (suc d) vs (others_then ends 1 (terms_tree signature.functions ts) ps) (omega arith) parts.0 (omega (arith, b)) (few_front vs us ws v)
+              (others_fine ends 1 ts c l d (after vs us) ps (omega (arith, a)) parts.1 (omega (arith, b)) (few_back vs us ws v) (fine_back c l d vs us ws ps h)),
+        )
 
     others_fine : (ends : Bool) (n : ℕ) (ts : Arguments) (c l d : ℕ) (vs : List (List ℕ)) (ps : List Printed) → n + count ts ≤ 64 → are_known signature ts ≡ true → depths ts + d ≤ 250 → length (after vs (variables_of ts)) ≤ 1024
         → AllFine (spot c l (after vs (variables_of ts)) d) ps → AllFine (spot c l vs (suc d)) (others_then ends n (terms_tree signature.functions ts) ps)
@@ -155,10 +156,11 @@ module _ (signature : SignatureValue) (lawful : LawfulSignature signature) (few 
       positive_fine (slice_get signature.predicates a.pred) a.args c l d vs ps (word_entry signature.predicates a.pred (count a.args) lawful.predicates parts.0) m (few_known vs (variables_of a.args) v)
       (arguments_fine true a.args c (suc l) d vs ps (few_arguments signature.predicates a.pred (count a.args) few.predicates parts.0) parts.1 b v h)
   signed_fine false a c l d vs ps k m b v h =
-      let parts = both_parts (takes (slice_get signature.predicates a.pred) (count a.args)) (are_known signature a.args) k in
-      (fine (spot c l vs d) (as_part NegativePart Tilde) (λ e. never e) (λ e. m) refl (few_known vs (variables_of a.args) v) (λ e. never e) (λ e. never e),
-      negated_fine (slice_get signature.predicates a.pred) a.args c (suc l) d vs ps (word_entry signature.predicates a.pred (count a.args) lawful.predicates parts.0) (few_known vs (variables_of a.args) v)
-      (arguments_fine true a.args c (suc l) d vs ps (few_arguments signature.predicates a.pred (count a.args) few.predicates parts.0) parts.1 b v h))
+      let parts = both_parts (takes (slice_get signature.predicates a.pred) (count a.args)) (are_known signature a.args) k in (
+        fine (spot c l vs d) (as_part NegativePart Tilde) (λ e. never e) (λ e. m) refl (few_known vs (variables_of a.args) v) (λ e. never e) (λ e. never e),
+        negated_fine (slice_get signature.predicates a.pred) a.args c (suc l) d vs ps (word_entry signature.predicates a.pred (count a.args) lawful.predicates parts.0) (few_known vs (variables_of a.args) v)
+            (arguments_fine true a.args c (suc l) d vs ps (few_arguments signature.predicates a.pred (count a.args) few.predicates parts.0) parts.1 b v h),
+      )
 
   abbrev all_known : List Literal → Bool
   all_known ls = list_all (λ l. is_known_atom signature l.atom) ls
@@ -176,33 +178,40 @@ module _ (signature : SignatureValue) (lawful : LawfulSignature signature) (few 
   barred_fine (x ∷ ls) c l vs ps k m b v h =
       let parts = both_parts (is_known_atom signature x.atom) (all_known ls) k in
       let us : List ℕ = variables_of x.atom.args in
-      let ws : List ℕ = clause_variables ls in
-      (fine (spot c l vs 1) (plain Bar) (λ e. never e) (λ e. never e) refl (few_known vs (us ++ ws) v) (λ e. never e) (λ e. never e),
-      signed_fine x.positive x.atom c l 1 vs (barred_then (literal_trees signature ls) ps) parts.0 (omega (arith, m)) (omega (arith, b.0)) (few_front vs us ws v)
-      (barred_fine ls c (suc l) (after vs us) ps parts.1 (omega (arith, m)) b.1 (few_back vs us ws v) h))
+      let ws : List ℕ = clause_variables ls in (
+        fine (spot c l vs 1) (plain Bar) (λ e. never e) (λ e. never e) refl (few_known vs (us ++ ws) v) (λ e. never e) (λ e. never e),
+        signed_fine x.positive x.atom c l 1 vs (barred_then (literal_trees signature ls) ps) parts.0 (omega (arith, m)) (omega (arith, b.0)) (few_front vs us ws v)
+            (barred_fine ls c (suc l) (after vs us) ps parts.1 (omega (arith, m)) b.1 (few_back vs us ws v) h),
+      )
 
   end_fine : (c : ℕ) (ps : List Printed) → FineBehind c 0 ps → FineBehind c 1 (plain CloseRound ∷ as_part EndPart Dot ∷ ps)
-  end_fine c ps h l vs v =
-      (fine (spot c l vs 1) (plain CloseRound) (λ e. never e) (λ e. never e) refl v (λ e. never e) (λ e. omega arith),
-      (fine (spot c l vs 0) (as_part EndPart Dot) (λ e. never e) (λ e. never e) refl v (λ e. never e) (λ e. never e), h l vs v))
+  end_fine c ps h l vs v = (
+    fine (spot c l vs 1) (plain CloseRound) (λ e. never e) (λ e. never e) refl v (λ e. never e) (λ e. omega arith),
+    (fine (spot c l vs 0) (as_part EndPart Dot) (λ e. never e) (λ e. never e) refl v (λ e. never e) (λ e. never e), h l vs v),
+  )
 
   frame_fine : (label : LabelValue) (c l : ℕ) (vs : List (List ℕ)) (body : List Printed) → c < 1048576 → length vs ≤ 1024 → AllFine (spot (suc c) 0 [] 1) body
       → AllFine (spot c l vs 0) (as_part FormulaPart (LowerWord (codes "cnf")) ∷ plain OpenRound ∷ as_part LabelPart (label_terminal (label_as label.form label.text)) ∷ plain Comma ∷ as_part RolePart (LowerWord (codes "axiom")) ∷ plain Comma ∷ body)
   frame_fine label c l vs body k v h =
-      let none : 0 ≤ 1024 = omega arith in
-      (fine (spot c l vs 0) (as_part FormulaPart (LowerWord (codes "cnf"))) (λ e. k) (λ e. never e) refl v (λ e. never e) (λ e. never e),
-      (fine (spot (suc c) 0 [] 0) (plain OpenRound) (λ e. never e) (λ e. never e) refl none (λ e. omega arith) (λ e. never e),
-      label_fine label.form label.text (suc c) 0 1 [] (plain Comma ∷ as_part RolePart (LowerWord (codes "axiom")) ∷ plain Comma ∷ body) none
-      (comma_fine (suc c) 0 1 [] (as_part RolePart (LowerWord (codes "axiom")) ∷ plain Comma ∷ body) none
-      (fine (spot (suc c) 0 [] 1) (as_part RolePart (LowerWord (codes "axiom"))) (λ e. never e) (λ e. never e) refl none (λ e. never e) (λ e. never e),
-      comma_fine (suc c) 0 1 [] body none h))))
+      let none : 0 ≤ 1024 = omega arith in (
+        fine (spot c l vs 0) (as_part FormulaPart (LowerWord (codes "cnf"))) (λ e. k) (λ e. never e) refl v (λ e. never e) (λ e. never e),
+        (
+          fine (spot (suc c) 0 [] 0) (plain OpenRound) (λ e. never e) (λ e. never e) refl none (λ e. omega arith) (λ e. never e),
+          label_fine label.form label.text (suc c) 0 1 [] (plain Comma ∷ as_part RolePart (LowerWord (codes "axiom")) ∷ plain Comma ∷ body) none
+              (comma_fine (suc c) 0 1 [] (as_part RolePart (LowerWord (codes "axiom")) ∷ plain Comma ∷ body) none (
+                fine (spot (suc c) 0 [] 1) (as_part RolePart (LowerWord (codes "axiom"))) (λ e. never e) (λ e. never e) refl none (λ e. never e) (λ e. never e),
+                comma_fine (suc c) 0 1 [] body none h,
+              )),
+        ),
+      )
 
   formula_fine : (label : LabelValue) (ls : List Literal) (c l : ℕ) (vs : List (List ℕ)) (ps : List Printed) → c < 1048576 → length vs ≤ 1024 → all_known ls ≡ true → length ls ≤ 4096 → Shallow ls
       → length (after [] (clause_variables ls)) ≤ 1024 → FineBehind (suc c) 0 ps → AllFine (spot c l vs 0) (formula_then (formula_tree signature label ls) ps)
   formula_fine label [] c l vs ps m v k n b w h =
-      frame_fine label c l vs ((record { terminal = truth_terminal false; part = PositivePart; ends_atom = true }) ∷ plain CloseRound ∷ as_part EndPart Dot ∷ ps) m v
-      (fine (spot (suc c) 0 [] 1) (record { terminal = truth_terminal false; part = PositivePart; ends_atom = true }) (λ e. never e) (λ e. omega arith) refl w (λ e. never e) (λ e. never e),
-      end_fine (suc c) ps h 1 [] w)
+      frame_fine label c l vs ((record { terminal = truth_terminal false; part = PositivePart; ends_atom = true }) ∷ plain CloseRound ∷ as_part EndPart Dot ∷ ps) m v (
+        fine (spot (suc c) 0 [] 1) (record { terminal = truth_terminal false; part = PositivePart; ends_atom = true }) (λ e. never e) (λ e. omega arith) refl w (λ e. never e) (λ e. never e),
+        end_fine (suc c) ps h 1 [] w,
+      )
   formula_fine label (x ∷ ls) c l vs ps m v k n b w h =
       let parts = both_parts (is_known_atom signature x.atom) (all_known ls) k in
       let us : List ℕ = variables_of x.atom.args in

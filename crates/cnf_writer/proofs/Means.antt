@@ -340,7 +340,7 @@ means_itself p lawful meant numbers functions predicates constant =
     ∙ ap (λ (x : List SymbolValue). both_lists x (with_symbols [] ps)) (sym functions)
     ∙ ap (λ (x : List SymbolValue). both_lists signature.functions x) (sym predicates) in
     sym (
-      ap (λ (x : SignatureValue). problem (clauses_of x 1 tree) x (position_or_len is_constant x.functions)) same
-      ∙ ap (λ (x : List ClauseValue). problem x signature (position_or_len is_constant signature.functions)) (clauses_same signature lawful different others p.clauses 1 meant numbers)
-      ∙ ap (λ (n : ℕ). problem p.clauses signature n) (sym constant)
+    ap (λ (x : SignatureValue). problem (clauses_of x 1 tree) x (position_or_len is_constant x.functions)) same
+    ∙ ap (λ (x : List ClauseValue). problem x signature (position_or_len is_constant signature.functions)) (clauses_same signature lawful different others p.clauses 1 meant numbers)
+    ∙ ap (λ (n : ℕ). problem p.clauses signature n) (sym constant)
     )
