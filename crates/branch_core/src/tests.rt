@@ -24,6 +24,55 @@ fn a_path_is_taken_once(rt: HostRuntime) -> Result<(), Fail> {
     Ok(())
 }
 
+/// Whether the event is refused at an offered path, while no key is posted.
+fn is_refused_at_offered(core: &mut Core, event: Event) -> bool {
+    match core.step(event) {
+        Ok(()) => false,
+        Err(why) => matches!(why.state, PathState::Offered) && why.least.is_none(),
+    }
+}
+
+#[test]
+fn what_is_not_held_is_not_given_away_or_ended(rt: HostRuntime) -> Result<(), Fail> {
+    let mut core = Core::new(rt.alloc(), 1)?;
+    let root = Path::root();
+    let offer = Event::Offer {
+        by: 0,
+        parent: root,
+        path: right_of(root),
+    };
+    assert!(rt; is_refused_at_offered(&mut core, offer));
+    let end = Event::End {
+        by: 0,
+        path: root,
+        parts: Parts::new(rt.alloc()),
+    };
+    assert!(rt; is_refused_at_offered(&mut core, end));
+    Ok(())
+}
+
+/// The least key that the refusal of a Cut at the root by this key carries.
+fn least_at_cut(core: &mut Core, least: u16) -> Option<u16> {
+    let cut = Event::Cut {
+        by: 0,
+        node: Path::root(),
+        least,
+    };
+    match core.step(cut) {
+        Ok(()) => None,
+        Err(why) => why.least,
+    }
+}
+
+#[test]
+fn a_node_is_not_cut_by_a_key_that_is_no_smaller(rt: HostRuntime) -> Result<(), Fail> {
+    let mut core = Core::new(rt.alloc(), 1)?;
+    assert!(rt; least_at_cut(&mut core, 0).is_none());
+    assert!(rt; core.step(Event::Post { by: 0, key: 5 }).is_ok());
+    assert_eq!(rt; least_at_cut(&mut core, 5), Some(5));
+    Ok(())
+}
+
 /// Whether the worker 0, who took the root, may give the right child away.
 fn gives_right(alloc: Global, share: u32) -> Result<bool, AllocError>
     requires { share < 17 }
