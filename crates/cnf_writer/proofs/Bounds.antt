@@ -1,10 +1,9 @@
 -- The tree of a problem within the limits passes none of them.
-use Rattle.std.proofs.Common.{◌≡◌, ◌<◌, ◌≤◌, ◌+◌, ℕ, suc, Bool, true, false, List, [], ◌∷◌, ◌++◌, length, Option, Some, None, refl, sym, ap, subst, ◌∙◌, arith}
+use Rattle.std.proofs.Common.{◌≡◌, ◌<◌, ◌≤◌, ◌+◌, ℕ, suc, Bool, true, false, List, [], ◌∷◌, ◌++◌, length, Option, refl, sym, ap, subst, arith}
 use Rattle.std.proofs.lemmas.Bool.Decides.{nat_tests}
 use Rattle.std.proofs.lemmas.List.{length-append}
-use Rattle.std.specs.Prelude.{codes, nat_le, slice_get, if◌then◌else◌}
-use Rattle.std.specs.List.{AllByRecursion, list_all, list_any}
-use Rattle.std.specs.Str.{bytes_eq}
+use Rattle.std.specs.Prelude.{codes, nat_le, slice_get}
+use Rattle.std.specs.List.{AllByRecursion, list_all}
 use Rattle.me_terms.specs.Measures.{literal_depth}
 use Rattle.me_terms.specs.Signatures.{takes, is_known, are_known, is_known_atom}
 use Rattle.me_terms.specs.TermEqualityLaws.{both_parts}
@@ -15,16 +14,15 @@ use Rattle.me_terms.specs.Variables.{term_variables, variables_of, count, depth,
 use Rattle.me_terms.specs.declared.atom.Literal.{Literal}
 use Rattle.me_terms.specs.declared.symbol.Form.{Form}
 use Rattle.me_terms.specs.declared.symbol.Form.TheVariants as form
-use Rattle.tptp_grammar.specs.Limits.{begins_argument_behind, with_variables}
+use Rattle.tptp_grammar.specs.Limits.{with_variables}
 use Rattle.tptp_grammar.specs.Terminals.{LowerWord, OpenRound, CloseRound, Comma, Dot, Bar, Tilde, Distinct}
 use Rattle.tptp_grammar.specs.Terminals as terminal
 use Rattle.tptp_grammar.specs.Written.{Name, Bare, Quoted}
 use Rattle.tptp_grammar.specs.Printed.{Printed, plain, as_part, name_terminal, truth_terminal, label_terminal, term_then, arguments_then, others_then, has_none, atom_then, literal_then, barred_then, formula_then, printed}
-use Rattle.tptp_grammar.specs.declared.part.Part.{Part}
 use Rattle.tptp_grammar.specs.declared.part.Part.TheVariants.{Formula as FormulaPart, Role as RolePart, Negative as NegativePart, Positive as PositivePart, Atom as AtomPart, Argument as ArgumentPart, Label as LabelPart, OpenArguments, CloseArguments, End as EndPart}
-use Rattle.tptp_cnf.proofs.Numbering.{Longer, text_longer, texts-append}
-use Rattle.cnf_writer.proofs.Spots.{Spot, spot, behind, Fine, AllFine, fine}
-use Rattle.cnf_writer.proofs.Trees.{name_if, name_of, label_as, variable_text, applied, term_tree, terms_tree, predicate, atom_tree, literal_tree, literal_trees, formula_tree, clauses_tree, Entry, a_word, an_object, entry, WordEntry, word_entry, few_arguments, nil_of, LawfulSignature, names, with_names}
+use Rattle.tptp_cnf.proofs.Numbering.{text_longer}
+use Rattle.cnf_writer.proofs.Spots.{spot, AllFine, fine}
+use Rattle.cnf_writer.proofs.Trees.{name_of, label_as, variable_text, applied, term_tree, terms_tree, predicate, literal_tree, literal_trees, formula_tree, clauses_tree, Entry, a_word, an_object, entry, WordEntry, word_entry, few_arguments, nil_of, LawfulSignature, names, with_names}
 
 never : {A : Type 0} → ◌≡◌ {A = Bool} false true → A
 never e = absurd cc

@@ -11,12 +11,12 @@ use Rattle.tptp_tokens.specs.Fronts.{Stops, IsAfter}
 use Rattle.tptp_tokens.specs.Gaps.{Piece, Blank, Line, LastLine, Block, IsPiece, IsGap}
 use Rattle.tptp_tokens.specs.Leads.{lead_of, sign_kind}
 use Rattle.tptp_tokens.specs.Numbers.{IsDigits, IsNumber, IsTail}
-use Rattle.tptp_tokens.specs.Quoted.{escaped, escaped_byte, escaped_if, is_escaped, unescaped}
+use Rattle.tptp_tokens.specs.Quoted.{escaped, escaped_byte, escaped_if, unescaped}
 use Rattle.tptp_tokens.specs.Tokens.{TokenValue, PlacedToken, IsFirst, IsCutFrom, OpensComment, text_as}
 use Rattle.tptp_tokens.specs.declared.token.TokenKind.{TokenKind}
 use Rattle.tptp_tokens.specs.declared.token.TokenKind.TheVariants as kinds
 use Rattle.tptp_tokens.proofs.Firsts.{lower_first, upper_first, one_dollar_first, single_first, distinct_first, number_first, alone_other, sign_first}
-use Rattle.tptp_tokens.proofs.Leads.{lower_lead, digits_number}
+use Rattle.tptp_tokens.proofs.Leads.{lower_lead}
 use Rattle.tptp_tokens.proofs.Numbers.{sign_empty, behind_other, fraction_none, power_other, exponent_none, tail_real, number}
 use Rattle.tptp_tokens.proofs.OneCut.{first_takes}
 use Rattle.tptp_tokens.proofs.Quotes.{unescaped-escaped, front_is}

@@ -1,5 +1,5 @@
 -- The tree of a plain problem means the problem.
-use Rattle.std.proofs.Common.{◌≡◌, ◌≢◌, ◌<◌, ◌≤◌, ◌+◌, ℕ, suc, Bool, true, false, cond, List, [], ◌∷◌, ◌++◌, map, length, Option, Some, None, refl, sym, ap, subst, ◌∙◌, append_assoc, arith}
+use Rattle.std.proofs.Common.{◌≡◌, ◌≢◌, ◌<◌, ◌≤◌, ◌+◌, ℕ, Bool, true, false, List, [], ◌∷◌, ◌++◌, length, Option, Some, None, refl, sym, ap, subst, ◌∙◌, arith}
 use Rattle.std.proofs.lemmas.Grind.{flat_map-append}
 use Rattle.std.proofs.lemmas.List.{map-append}
 use Rattle.std.specs.Prelude.{◌||◌, slice_get, option_to_list, if◌then◌else◌}
@@ -17,12 +17,12 @@ use Rattle.me_terms.specs.declared.symbol.Form.{Form}
 use Rattle.me_terms.specs.declared.symbol.Form.TheVariants as form
 use Rattle.cnf_text.specs.LabelText as cnf
 use Rattle.tptp_grammar.specs.Limits.{with_variables}
-use Rattle.tptp_grammar.specs.Written.{name_text, WrittenTerms, WrittenLiteral, WrittenFormula}
+use Rattle.tptp_grammar.specs.Written.{name_text, WrittenTerms, WrittenFormula}
 use Rattle.tptp_cnf.specs.Meaning as meaning
 use Rattle.tptp_cnf.specs.Meaning.{word, distinct, symbol, label_of, name_symbol, is_positive, is_true_atom, is_true, literals_of, is_left_out, term_functions, terms_functions, term_variables, terms_variables, atom_predicates, atom_functions, atom_variables, literals_predicates, literals_functions, literals_variables, file_predicates, file_functions, place_of, term_of, terms_of, signed_literal, clause_literals, clause_of, clauses_of, with_symbols, with_constant, is_constant, signature_of, problem_of}
 use Rattle.tptp_cnf.specs.Plain.{term_function_numbers, function_numbers, symbols_at, clauses_functions, clauses_predicates, HasNumbersFrom}
-use Rattle.cnf_writer.proofs.Places.{Different, number_at, different_symbols, different_constant, upto, length-upto, Small, place_is, with_first, all_so, Numbered, numbered}
-use Rattle.cnf_writer.proofs.Trees.{name_if, name_of, label_as, variable_text, applied, term_tree, terms_tree, predicate, atom_tree, sign_of, literal_tree, literal_trees, falsity, framed, formula_tree, clauses_tree, problem_tree, Entry, a_word, an_object, entry, WordEntry, word_entry, nil_of, LawfulSignature, all_front, all_back, names}
+use Rattle.cnf_writer.proofs.Places.{Different, number_at, different_symbols, different_constant, length-upto, Small, place_is, with_first, all_so, Numbered, numbered}
+use Rattle.cnf_writer.proofs.Trees.{name_if, name_of, label_as, variable_text, applied, term_tree, terms_tree, predicate, atom_tree, sign_of, literal_trees, formula_tree, clauses_tree, problem_tree, Entry, a_word, an_object, entry, WordEntry, word_entry, nil_of, LawfulSignature, all_front, all_back, names}
 
 -- ---- names and labels
 

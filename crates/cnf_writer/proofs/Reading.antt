@@ -1,5 +1,5 @@
 -- The text of a problem is read as the tokens of its tree.
-use Rattle.std.proofs.Common.{◌≡◌, ◌≢◌, ◌<◌, ◌≤◌, ◌^◌, ℕ, suc, Bool, true, false, List, [], ◌∷◌, ◌++◌, Option, Some, None, refl, sym, ap, subst, ◌∙◌, arith}
+use Rattle.std.proofs.Common.{◌≡◌, ◌≢◌, ◌<◌, ◌≤◌, ◌^◌, ℕ, suc, Bool, true, false, List, [], ◌∷◌, ◌++◌, Option, refl, sym, subst, arith}
 use Rattle.std.proofs.lemmas.Bool.Decides.{nat_tests}
 use Rattle.std.proofs.lemmas.Fmt.{decimal_is_IsNumeral}
 use Rattle.std.proofs.lemmas.Str.Parse.{digit_from_value}
@@ -26,10 +26,11 @@ use Rattle.tptp_tokens.proofs.Runs.{all_first, all_more}
 use Rattle.tptp_grammar.specs.Terminals.{LowerWord, OpenRound, CloseRound, Comma, Dot, Bar, Tilde}
 use Rattle.tptp_grammar.specs.Printed.{Printed, plain, as_part, name_terminal, truth_terminal, label_terminal, term_then, arguments_then, others_then, has_none, atom_then, literal_then, barred_then, formula_then, printed}
 use Rattle.tptp_grammar.specs.declared.part.Part.{Part}
-use Rattle.tptp_grammar.specs.declared.part.Part.TheVariants.{Formula as FormulaPart, Role as RolePart, Negative as NegativePart, Positive as PositivePart, Atom as AtomPart, Argument as ArgumentPart, Label as LabelPart, OpenArguments, CloseArguments, End as EndPart}
-use Rattle.cnf_writer.specs.ProblemText.{clause_line, clause_lines}
+use Rattle.tptp_grammar.specs.declared.part.Part.TheVariants.{Formula as FormulaPart, Role as RolePart, Negative as NegativePart, Positive as PositivePart, Atom as AtomPart, Argument as ArgumentPart, Label as LabelPart, OpenArguments, End as EndPart}
+use Rattle.cnf_writer.specs.ProblemText.{clause_lines}
 use Rattle.cnf_writer.proofs.Marks.{Reads, reads_nothing, reads_blank, reads_apart, reads_sign, reads_lower, reads_variable, reads_false, reads_quoted, reads_distinct, reads_digits}
-use Rattle.cnf_writer.proofs.Trees.{name_if, name_of, label_as, applied, term_tree, terms_tree, predicate, atom_tree, literal_tree, literal_trees, framed, formula_tree, clauses_tree, Entry, a_word, an_object, entry, WordEntry, word_entry, nil_of, LawfulSignature, all_front, all_back}
+use Rattle.cnf_writer.proofs.Places.{Small}
+use Rattle.cnf_writer.proofs.Trees.{name_if, name_of, label_as, applied, term_tree, terms_tree, predicate, atom_tree, literal_tree, literal_trees, formula_tree, clauses_tree, Entry, a_word, an_object, entry, WordEntry, word_entry, nil_of, LawfulSignature, all_front, all_back}
 
 -- ---- names, labels and variables
 
@@ -116,9 +117,6 @@ framed_reads l text rest body h r =
     (label_reads l.form l.text (codes "axiom," ++ (text ++ (end ++ rest))) tail h.0 h.1 (role_reads (text ++ (end ++ rest)) body r)))))
 
 -- ---- terms
-
-abbrev pub Small : ℕ → Type 0
-Small x = x < 2 ^ 64
 
 module _ (signature : SignatureValue) (lawful : LawfulSignature signature) where
   applied_reads : (n : ℕ) (o : Option SymbolValue) (ts : Arguments) (rest : List ℕ) (ps : List Printed) → Entry o (count ts) → Stops is_word_byte (arguments_text signature ts ++ rest)

@@ -1,5 +1,5 @@
 -- The text of a plain problem is a file that means the problem.
-use Rattle.std.proofs.Common.{◌≡◌, ◌<◌, ◌≤◌, ◌+◌, ℕ, List, [], ◌∷◌, length, sym, ap, subst, arith}
+use Rattle.std.proofs.Common.{◌≡◌, ◌≤◌, ℕ, List, [], ◌∷◌, length, ap, arith}
 use Rattle.std.proofs.lemmas.List.{length-map}
 use Rattle.std.proofs.lemmas.List.Elements.{recursion_from_All}
 use Rattle.std.specs.List.{AllByRecursion}
@@ -15,7 +15,6 @@ use Rattle.cnf_writer.specs.ProblemText.{problem_text}
 use Rattle.cnf_writer.proofs.Bounds.{Few, WithinLimits, clauses_fine}
 use Rattle.cnf_writer.proofs.Marks.{cut_as}
 use Rattle.cnf_writer.proofs.Means.{Meant, Known, known_variables, means_itself}
-use Rattle.cnf_writer.proofs.Places.{upto, length-upto, numbered}
 use Rattle.cnf_writer.proofs.Reading.{Readable, lines_read}
 use Rattle.cnf_writer.proofs.Spots.{all_within}
 use Rattle.cnf_writer.proofs.Trees.{LawfulSignature, variable_text, names, problem_tree}
