@@ -1,10 +1,10 @@
 -- How a walk goes back along its branch.
-use Rattle.std.proofs.Common.{◌≡◌, ℕ, ◌+◌, ◌<◌, ◌≤◌, Bool, true, false, IsTrue, not, List, [], ◌∷◌, ◌++◌, length, append-nil, append_assoc, Option, Some, None, refl, sym, subst, ap, ◌∙◌, arith}
-use Rattle.me_terms.specs.Values.{ProblemValue, EntryValue, SplitLeft}
+use Rattle.std.proofs.Common.{◌≡◌, ℕ, ◌<◌, ◌≤◌, Bool, true, false, IsTrue, not, [], ◌∷◌, ◌++◌, length, append-nil, append_assoc, Some, None, refl, sym, subst, ap, ◌∙◌, arith}
+use Rattle.me_terms.specs.Values.{ProblemValue, EntryValue}
 use Rattle.me_terms.specs.Context.{Context, add}
 use Rattle.me_terms.specs.Grown.{IsGrown}
 use Rattle.me_terms.specs.declared.bounds.Bounds.{Bounds}
-use Rattle.darwin_solve.specs.Turns.{AreNotLeft, IsTurned, HasNoLeft, beside, beside_left}
+use Rattle.darwin_solve.specs.Turns.{AreNotLeft, IsTurned, HasNoLeft, beside_left}
 use Rattle.darwin_solve.proofs.Ends.{longer}
 use Rattle.darwin_solve.proofs.Reasons.{left_if, not_left_if, grown_before, may_go_right, right_can_grow, CanGrow}
 

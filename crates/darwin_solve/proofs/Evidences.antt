@@ -1,5 +1,5 @@
 -- What comes with an answer, from the laws of refutations, models and function-free problems.
-use Rattle.std.proofs.Common.{◌≡◌, Bool}
+use Rattle.std.proofs.Common.{Bool}
 use Rattle.me_terms.specs.Values.{ProblemValue}
 use Rattle.me_terms.specs.Validity.{IsValid}
 use Rattle.me_terms.specs.Answer.{AnswerValue, Unsatisfiable, Satisfiable, GaveUp, HasAnswer}

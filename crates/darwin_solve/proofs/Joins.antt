@@ -2,7 +2,7 @@
 use Rattle.std.proofs.Common.{◌≡◌, List, [], ◌∷◌, ◌++◌, refl, sym, subst, ap, ◌∙◌}
 use Rattle.me_terms.specs.Values.{ProblemValue, InstanceValue}
 use Rattle.me_terms.specs.Context.{Context}
-use Rattle.me_terms.specs.FirstOccurrences.{first_occurrences, joined}
+use Rattle.me_terms.specs.FirstOccurrences.{first_occurrences}
 use Rattle.me_terms.specs.Outcome.{TreeOutcome, Closed, Sat, Met, both, HasOutcome, closes, is_exhausted, is_bounded, asserts, splits}
 use Rattle.me_terms.specs.declared.bounds.Bounds.{Bounds}
 use Rattle.instance_lists.proofs.FirstOccurrences.{first-again, joined-assoc}

@@ -1,15 +1,15 @@
 -- The instances and the contexts that are answered are over the problem's signature.
-use Rattle.std.proofs.Common.{◌≡◌, ℕ, zero, suc, ◌+◌, ◌<◌, Bool, true, false, ◌&&◌, ◌||◌, cond, nat_le, eqb, ◌⊎◌, inl, inr, List, [], ◌∷◌, length, map, slice_get, get_or, Option, Some, None, refl, sym, subst, ap, ◌∙◌}
+use Rattle.std.proofs.Common.{◌≡◌, ℕ, zero, suc, Bool, true, false, ◌&&◌, ◌||◌, cond, nat_le, eqb, ◌⊎◌, inl, inr, List, [], ◌∷◌, map, slice_get, get_or, Option, Some, None, refl, sym, subst, ap, ◌∙◌}
 use Rattle.std.specs.Prelude.{IsTrue}
-use Rattle.std.specs.List.{All, list_all}
+use Rattle.std.specs.List.{list_all}
 use Rattle.std.proofs.lemmas.Bool.{eqb-true}
 use Rattle.std.proofs.lemmas.Option.{slice_get_within, same_Some}
 use Rattle.me_terms.specs.Terms.{TermValue, Var, App, Arguments, Nil, Cons, AtomValue}
-use Rattle.me_terms.specs.Substitutions.{Substitution, Family, apply_term, apply_arguments, apply_atom, apply_literal}
+use Rattle.me_terms.specs.Substitutions.{Substitution, Family, apply_arguments, apply_atom, apply_literal}
 use Rattle.me_terms.specs.Variables.{variables_of, count, first_ones, place_of, canonical}
 use Rattle.me_terms.specs.Measures.{complement, canonical_literal, list_weight}
 use Rattle.me_terms.specs.Values.{SignatureValue, ClauseValue, ProblemValue, EntryValue, InstanceValue, SplitLeft, SplitRight}
-use Rattle.me_terms.specs.Context.{Context, StandsAt, IsAtomWith, IsLiteralEntry, pseudo, add}
+use Rattle.me_terms.specs.Context.{Context, StandsAt, IsAtomWith, pseudo, add}
 use Rattle.me_terms.specs.Positions.{positions_of, ClauseAt}
 use Rattle.me_terms.specs.Unifier.{IsUnifier, unified}
 use Rattle.me_terms.specs.Signatures.{is_known, are_known, is_known_atom, takes}
@@ -29,7 +29,6 @@ use Rattle.me_terms.specs.declared.atom.Pattern.TheVariants.{Any, Of}
 use Rattle.me_laws.proofs.Added.{add_either}
 use Rattle.me_laws.proofs.Grown.{grown}
 use Rattle.me_laws.proofs.Lists.{all_at}
-use Rattle.me_refutation.specs.Refutation.{ClosedIsRefutedBy}
 use Rattle.me_refutation.proofs.Known.{both_true, count_applied, all_known_under, clause_known}
 use Rattle.me_refutation.proofs.Sound.{IsSound, grown_sound}
 use Rattle.me_refutation.proofs.UnifierKnown.{unifier_known}

@@ -1,5 +1,5 @@
 -- What a leaf adds to what was found.
-use Rattle.std.proofs.Common.{◌≡◌, ℕ, ◌+◌, ◌<◌, ◌≤◌, Bool, true, false, List, [], ◌∷◌, ◌++◌, length, take, slice_get, Option, Some, refl, sym, subst, ap, ◌∙◌, arith}
+use Rattle.std.proofs.Common.{◌≡◌, ℕ, ◌+◌, ◌<◌, ◌≤◌, List, [], ◌∷◌, ◌++◌, take, slice_get, Some, refl, sym, subst, ap, ◌∙◌, arith}
 use Rattle.std.specs.Prelude.{Result, Ok, Err, IfOk}
 use Rattle.std.proofs.lemmas.List.{take_more}
 use Rattle.std.proofs.lemmas.Option.{slice_get_within, get_or_from_slice_get}
@@ -19,10 +19,7 @@ use Rattle.instance_lists.proofs.FirstOccurrences.{first-again, weight-left, wei
 use Rattle.ground_refutation.specs.Queue.{IsGrownOver}
 use Rattle.darwin_solve.specs.declared.found.Found.{Found}
 use Rattle.darwin_solve.specs.declared.found.Found.TheVariants as found
-use Rattle.darwin_solve.specs.Found.{IsKept, IsClosedWith}
-use Rattle.darwin_solve.specs.declared.search.Leaf.{Leaf}
-use Rattle.darwin_solve.specs.declared.search.Leaf.TheVariants as leaf
-use Rattle.darwin_solve.specs.Leaves.{leaf_value}
+use Rattle.darwin_solve.specs.Found.{IsKept}
 use Rattle.darwin_solve.proofs.Joins.{once}
 
 pub if_ok_map : {T E : Type 0} (r : Result T E) (P Q : T → Type 0) → ((a : T) → P a → Q a) → IfOk r P → IfOk r Q

@@ -1,7 +1,7 @@
 -- A walk's place in the tree of the root: how it moves down, back and to the right.
-use Rattle.std.proofs.Common.{◌≡◌, ℕ, ◌+◌, ◌<◌, ◌≤◌, Bool, ◌⊎◌, inl, inr, List, [], ◌∷◌, ◌++◌, length, append-nil, append_assoc, refl, sym, subst, ap, ◌∙◌, arith}
+use Rattle.std.proofs.Common.{◌≡◌, ◌≤◌, ◌⊎◌, inl, inr, [], ◌∷◌, ◌++◌, length, append-nil, append_assoc, refl, sym, subst, ap, ◌∙◌, arith}
 use Rattle.me_terms.specs.Measures.{complement}
-use Rattle.me_terms.specs.Values.{ProblemValue, EntryValue, ReasonValue, Asserted, SplitLeft, SplitRight}
+use Rattle.me_terms.specs.Values.{ProblemValue, EntryValue, Asserted, SplitLeft, SplitRight}
 use Rattle.me_terms.specs.Context.{Context, add}
 use Rattle.me_terms.specs.Next.{Assert, Split, IsNext}
 use Rattle.me_terms.specs.Grown.{IsGrown, split_entry, left_of, right_of, asserted, went_left, went_right}

@@ -1,12 +1,12 @@
 -- What the reasons of a grown context's entries tell a walk that goes back.
-use Rattle.std.proofs.Common.{◌≡◌, ℕ, ◌<◌, ◌≤◌, Bool, List, [], ◌∷◌, ◌++◌, length, Option, Some, None, refl, sym, subst, ap, ◌∙◌, arith}
+use Rattle.std.proofs.Common.{◌≡◌, ◌≤◌, Bool, ◌∷◌, ◌++◌, length, Some, None, refl, sym, subst, ap, ◌∙◌, arith}
 use Rattle.std.proofs.lemmas.Option.{same_Some}
 use Rattle.me_terms.specs.Measures.{complement}
 use Rattle.me_terms.specs.Values.{ProblemValue, EntryValue, ReasonValue, Pseudo, Asserted, SplitLeft, SplitRight}
-use Rattle.me_terms.specs.Context.{Context, IsLiteralEntry, add}
+use Rattle.me_terms.specs.Context.{Context, IsLiteralEntry}
 use Rattle.me_terms.specs.Contradictory.{Contradicts}
 use Rattle.me_terms.specs.Next.{Split, IsNext, HasRoom}
-use Rattle.me_terms.specs.Grown.{IsGrown, split_entry, right_of, went_right}
+use Rattle.me_terms.specs.Grown.{IsGrown, split_entry, went_right}
 use Rattle.me_terms.specs.declared.bounds.Bounds.{Bounds}
 use Rattle.me_terms.specs.declared.entry.Kind.{Kind}
 use Rattle.me_terms.specs.declared.atom.Literal.{Literal}

@@ -1,9 +1,9 @@
 -- What a walk has found of the root's tree, and where it stands.
-use Rattle.std.proofs.Common.{◌≡◌, ℕ, ◌<◌, ◌≤◌, Bool, true, false, ◌⊎◌, inl, inr, List, [], ◌∷◌, ◌++◌, length, refl, sym, subst, ap, ◌∙◌, arith}
-use Rattle.me_terms.specs.Values.{ProblemValue, EntryValue, InstanceValue, SplitLeft}
-use Rattle.me_terms.specs.Context.{Context, add}
+use Rattle.std.proofs.Common.{◌≡◌, ℕ, ◌<◌, ◌≤◌, Bool, true, inl, inr, [], length, refl, sym, subst, ap, ◌∙◌, arith}
+use Rattle.me_terms.specs.Values.{ProblemValue}
+use Rattle.me_terms.specs.Context.{Context}
 use Rattle.me_terms.specs.Grown.{IsGrown}
-use Rattle.me_terms.specs.Outcome.{TreeOutcome, Closed, Sat, Met, both, HasOutcome}
+use Rattle.me_terms.specs.Outcome.{TreeOutcome, Closed, Sat, both, HasOutcome}
 use Rattle.me_terms.specs.declared.bounds.Bounds.{Bounds}
 use Rattle.me_existence.proofs.Outcomes as exists
 use Rattle.darwin_solve.specs.declared.found.Found.{Found}

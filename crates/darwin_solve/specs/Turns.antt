@@ -1,5 +1,5 @@
 -- How a walk goes down to a leaf, and from there to the next right branch.
-use Rattle.std.specs.Prelude.{◌≡◌, ◌≤◌, ℕ, ◌++◌, [], ◌∷◌, not, Option, Some, None, List, length}
+use Rattle.std.specs.Prelude.{◌≡◌, ◌≤◌, ℕ, ◌++◌, [], ◌∷◌, not, Option, Some, None, length}
 use Rattle.me_terms.specs.Values.{ProblemValue, EntryValue, ReasonValue, Pseudo, Asserted, SplitLeft, SplitRight}
 use Rattle.me_terms.specs.Context.{Context, add}
 use Rattle.me_terms.specs.Grown.{left_of}

@@ -10,3 +10,6 @@ mod solve;
 mod walk;
 
 pub use solve::solve_alone;
+
+#[cfg(test)]
+mod tests;

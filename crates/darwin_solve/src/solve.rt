@@ -24,7 +24,7 @@ pub fn solve_alone(alloc: Global, problem: &Problem, bounds: &Bounds) -> Result<
     ensures refuted { IfOk result (λ answer. HasRefutation problem.now bounds.now (answer_value answer)) }
     ensures model { IfOk result (λ answer. HasModel problem.now (answer_value answer)) }
     ensures function_free { IfOk result (λ answer. IsFunctionFree problem.now → IsRoomy problem.now bounds.now → MeetsOnlyList (answer_value answer)) }
-    ensures over { IfOk result (λ answer. IsOverProblem problem.now (answer_value answer)) }
+    ensures printable { IfOk result (λ answer. IsOverProblem problem.now (answer_value answer)) }
 {
     let mut branch = Context::new(alloc)?;
     let found = walk(alloc, problem, bounds, &mut branch)?;

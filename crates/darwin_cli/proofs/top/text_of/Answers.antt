@@ -10,7 +10,7 @@ use Rattle.darwin_cli.proofs.Known.{printable_is}
 use Rattle.darwin_cli.proofs.top.text_of.Goals as goal
 
 pub print_answer-requires-clause-answer : goal.print_answer-requires-clause-answer
-print_answer-requires-clause-answer c = printable_is c.args.problem.now c.in_ok-answer.answer c.in_ok-answer.ensures.over
+print_answer-requires-clause-answer c = printable_is c.args.problem.now c.in_ok-answer.answer c.in_ok-answer.ensures.printable
 
 pub returns : goal.returns
 returns c =

@@ -28,5 +28,5 @@ returns-clause-model c = has_model c.args.problem.now c.args.bounds.now false (a
 pub returns-clause-function_free : goal.returns-clause-function_free
 returns-clause-function_free c = λ free roomy. meets_only_list c.args.problem.now c.args.bounds.now false c.requires.valid free roomy (answer_value c.answer.result) (reply c)
 
-pub returns-clause-over : goal.returns-clause-over
-returns-clause-over c = answer_over c.args.problem.now c.args.bounds.now false c.requires.valid (answer_value c.answer.result) (reply c)
+pub returns-clause-printable : goal.returns-clause-printable
+returns-clause-printable c = answer_over c.args.problem.now c.args.bounds.now false c.requires.valid (answer_value c.answer.result) (reply c)

@@ -1,5 +1,4 @@
-use Rattle.std.proofs.Common.{◌≤◌, length}
-use Rattle.darwin_solve.specs.Turns.{AreNotLeft}
+use Rattle.std.proofs.Common.{length}
 use Rattle.darwin_solve.proofs.Back.{IsBack}
 use Rattle.darwin_solve.proofs.search.Search.go_right.Given as goal
 

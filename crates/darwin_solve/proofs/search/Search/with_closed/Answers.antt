@@ -1,5 +1,4 @@
 use Rattle.std.proofs.Common.{subst}
-use Rattle.me_terms.specs.Outcome.{TreeOutcome}
 use Rattle.darwin_solve.specs.declared.found.Found.{Found}
 use Rattle.darwin_solve.specs.Found.{IsKept}
 use Rattle.darwin_solve.proofs.LeafSteps.{still_heavy, still_met}
