@@ -139,10 +139,11 @@ cnf(i1,plain,$false,instance(1,e)).
 % SZS output end Refutation for stdin
 ";
 
-const NAMED: &str = "% SZS status Satisfiable for x
-% SZS output start Model for x
-% default false
-% SZS output end Model for x
+const NAMED: &str = "% SZS status Unsatisfiable for x
+% SZS output start Refutation for x
+cnf(i1,plain,~p,instance(2,b)).
+cnf(i2,plain,p,instance(1,a)).
+% SZS output end Refutation for x
 ";
 
 /// The first file of the table that is not answered as it should be.
@@ -239,7 +240,7 @@ fn refusals_name_their_places(rt: HostRuntime) -> Result<(), Fail> {
 #[test]
 fn words_may_name_the_problem(rt: HostRuntime) -> Result<(), Fail> {
     let alloc = rt.alloc();
-    let (status, written) = ran(alloc, &["darwin", "--name", "x"], "")?;
+    let (status, written) = ran(alloc, &["darwin", "--name", "x"], CONTRADICTION)?;
     assert_eq!(rt; status, 0);
     assert_eq!(rt; written.as_slice(), NAMED.as_bytes());
     Ok(())
