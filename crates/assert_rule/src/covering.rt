@@ -5,18 +5,8 @@ ghost use Rattle.me_terms.specs.declared.atom.Pattern.TheVariants as pattern;
 ghost use Rattle.assert_rule.specs.AssertedEntries.{Covers, CoversAt, IsNew};
 
 use joint_unifiers::is_contradictory;
-use me_terms::{Atom, Entry, Kind, Literal, Pattern, View, is_variant, matches};
+use me_terms::{Entry, Kind, Literal, View, is_variant_of, matches};
 use std::alloc::{AllocError, Global};
-
-/// Whether the pattern is a variant of the atom. The pseudo-atom is none.
-fn is_variant_of(own: &Pattern, atom: &Atom) -> bool
-    ensures { IsTrue result ↔ IsVariant own.now (pattern.Of atom.now) }
-{
-    match own {
-        Pattern::Any => false,
-        Pattern::Of(known) => is_variant(known, atom),
-    }
-}
 
 /// Whether the entry, where it is visible, makes an Assert of the literal with that kind needless.
 fn covers(entry: &Entry, lit: &Literal, kind: Kind) -> bool

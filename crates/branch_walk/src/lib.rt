@@ -12,3 +12,6 @@ mod split_search;
 mod split_state;
 
 pub use next::next_step;
+
+#[cfg(test)]
+mod tests;

@@ -13,3 +13,6 @@ mod targets;
 pub use cursor::Cursor;
 pub use next::next_unifier;
 pub use productive::is_productive;
+
+#[cfg(test)]
+mod tests;

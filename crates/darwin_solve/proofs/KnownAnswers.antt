@@ -33,7 +33,8 @@ use Rattle.me_refutation.proofs.Known.{both_true, count_applied, all_known_under
 use Rattle.me_refutation.proofs.Sound.{IsSound, grown_sound}
 use Rattle.me_refutation.proofs.UnifierKnown.{unifier_known}
 use Rattle.me_refutation.proofs.Answered.{unsatisfiable_refuted}
-use Rattle.darwin_solve.specs.Evidence.{IsKnownInstance, IsKnownContext, IsOverProblem}
+use Rattle.darwin_solve.specs.Evidence.{IsOverProblem}
+use Rattle.me_terms.specs.Known.{IsKnownInstance, IsKnownContext}
 
 -- ---- atoms under substitutions
 atom_known : (names : SignatureValue) (s : Substitution) → ((x : ℕ) → is_known names (s x) ≡ true) → (a : AtomValue) → is_known_atom names a ≡ true → is_known_atom names (apply_atom s a) ≡ true

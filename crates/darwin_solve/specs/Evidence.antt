@@ -1,10 +1,10 @@
 -- What comes with an answer.
-use Rattle.std.specs.Prelude.{◌≡◌, ℕ, ◌<◌, ◌≤◌, Bool, length, IsTrue}
-use Rattle.std.specs.List.{All, list_all}
+use Rattle.std.specs.Prelude.{◌≡◌, ◌≤◌}
+use Rattle.std.specs.List.{All}
 use Rattle.me_terms.specs.Measures.{list_weight}
-use Rattle.me_terms.specs.Values.{SignatureValue, ProblemValue, EntryValue, InstanceValue}
-use Rattle.me_terms.specs.Context.{Context, StandsAt, pseudo, IsAtomWith, IsContext}
-use Rattle.me_terms.specs.Signatures.{is_known_atom}
+use Rattle.me_terms.specs.Values.{ProblemValue}
+use Rattle.me_terms.specs.Context.{IsContext}
+use Rattle.me_terms.specs.Known.{IsKnownInstance, IsKnownContext}
 use Rattle.me_terms.specs.Contradictory.{IsConsistent}
 use Rattle.me_terms.specs.InducedModel.{IsModel}
 use Rattle.me_terms.specs.Answer.{AnswerValue, Unsatisfiable, Satisfiable, GaveUp}
@@ -29,16 +29,6 @@ abbrev pub MeetsOnlyList : AnswerValue → Type 0
 MeetsOnlyList (Unsatisfiable list) = Unit {0}
 MeetsOnlyList (Satisfiable context) = Unit {0}
 MeetsOnlyList (GaveUp b) = b ≡ bound.List
-
--- An instance of one of the problem's clauses, over its signature.
-pub record IsKnownInstance (problem : ProblemValue) (i : InstanceValue) : Type 0 where
-  pub clause : i.clause < length problem.clauses
-  pub literals : IsTrue (list_all (λ l. is_known_atom problem.signature l.atom) i.literals)
-
--- A context over the signature, with the pseudo-literal at position 0 and nowhere else.
-pub record IsKnownContext (signature : SignatureValue) (context : Context) : Type 0 where
-  pub first : (positive : Bool) × StandsAt context 0 (pseudo positive)
-  pub later : (k : ℕ) (e : EntryValue) → 0 < k → StandsAt context k e → IsAtomWith (λ a. IsTrue (is_known_atom signature a)) e.atom
 
 -- What is answered speaks of the problem's clauses and symbols alone.
 abbrev pub IsOverProblem : ProblemValue → AnswerValue → Type 0

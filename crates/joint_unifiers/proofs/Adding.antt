@@ -7,7 +7,7 @@ use Rattle.me_terms.specs.Context.{Context}
 use Rattle.me_terms.specs.Positions.{entry_at}
 use Rattle.me_terms.specs.declared.atom.Literal.{Literal}
 use Rattle.me_unify.specs.Equations.{Equation, SolvesAll, IsSolvable}
-use Rattle.joint_unifiers.specs.ClauseEquations.{equations_at, equations_from}
+use Rattle.me_unify.specs.ClauseEquations.{equations_at, equations_from}
 use Rattle.joint_unifiers.proofs.Bridge.{solves_first}
 
 pub drop_at : {A : Type 0} (xs : List A) (k : ℕ) (x : A) → slice_get xs k ≡ Some x → drop k xs ≡ x ∷ drop (k + 1) xs

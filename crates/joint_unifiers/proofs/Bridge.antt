@@ -13,7 +13,7 @@ use Rattle.me_terms.specs.declared.atom.Pattern.{Pattern}
 use Rattle.me_terms.specs.declared.atom.Pattern.TheVariants.{Any, Of}
 use Rattle.me_laws.proofs.UnifiersExist.{unifiers_exist}
 use Rattle.me_unify.specs.Equations.{Equation, equation, SolvesOne, SolvesAll, IsSolvable, IsMostGeneral}
-use Rattle.joint_unifiers.specs.ClauseEquations.{equations_with, equations_at, equations_from, clause_equations}
+use Rattle.me_unify.specs.ClauseEquations.{equations_with, equations_at, equations_from, clause_equations}
 
 -- ---- solutions of lists of equations in parts
 pub solves_first : (u : Family) (es fs : List Equation) → SolvesAll u (es ++ fs) → SolvesAll u es

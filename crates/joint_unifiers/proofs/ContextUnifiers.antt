@@ -7,7 +7,7 @@ use Rattle.me_terms.specs.Unifier.{IsUnifier, IsContextUnifier}
 use Rattle.me_terms.specs.Remainder.{remainder}
 use Rattle.me_terms.specs.declared.atom.Literal.{Literal}
 use Rattle.me_unify.specs.Equations.{Equation, IsSolvable, IsMostGeneral}
-use Rattle.joint_unifiers.specs.ClauseEquations.{clause_equations}
+use Rattle.me_unify.specs.ClauseEquations.{clause_equations}
 use Rattle.joint_unifiers.specs.ClauseUnifiers.{UnifierValue, IsUnifierOf}
 use Rattle.joint_unifiers.proofs.Bridge.{of_solves, unifier_iff, general_of}
 

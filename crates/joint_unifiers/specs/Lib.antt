@@ -1,4 +1,3 @@
-pub mod ClauseEquations
 pub mod ClauseUnifiers
 pub mod Contradiction
 pub mod Measured

@@ -11,7 +11,7 @@ ghost use Rattle.me_terms.specs.Contradictory.{Unifiable, Clash, IsContradictory
 ghost use Rattle.me_terms.specs.declared.atom.Pattern.TheVariants as variant;
 ghost use Rattle.joint_unifiers.specs.Contradiction.{ContradictsAt};
 
-use me_terms::{Atom, Entry, Kind, Literal, Pattern, View, generalizes, is_variant, matches};
+use me_terms::{Atom, Entry, Kind, Literal, Pattern, View, generalizes, is_variant_of, matches};
 use me_unify::Bindings;
 use std::alloc::{AllocError, Global};
 
@@ -32,16 +32,6 @@ fn is_instance(atom: &Atom, pattern: &Pattern) -> bool
     match pattern {
         Pattern::Any => false,
         Pattern::Of(other) => generalizes(atom, other),
-    }
-}
-
-/// Whether the pattern is a variant of the atom.
-fn is_variant_of(pattern: &Pattern, atom: &Atom) -> bool
-    ensures { IsTrue result ↔ IsVariant pattern.now (variant.Of atom.now) }
-{
-    match pattern {
-        Pattern::Any => false,
-        Pattern::Of(other) => is_variant(other, atom),
     }
 }
 

@@ -5,7 +5,7 @@
 ghost use Rattle.std.specs.Prelude.{◌≡◌, ℕ, ◌<◌, ◌≤◌, ◌+◌, ◌-◌, ◌^◌, ◌++◌, [], length, slice_get, Some, IfOk, IsTrue, ◌↔◌};
 ghost use Rattle.me_terms.specs.Positions.{positions_of, entry_at};
 ghost use Rattle.me_unify.specs.Equations.{IsSolvable};
-ghost use Rattle.joint_unifiers.specs.ClauseEquations.{equations_with, equations_at, clause_equations};
+ghost use Rattle.me_unify.specs.ClauseEquations.{equations_with, equations_at, clause_equations};
 ghost use Rattle.joint_unifiers.specs.Places.{IsPlaceOf};
 
 use me_terms::{Entry, Literal, Pattern, Tuple, View};

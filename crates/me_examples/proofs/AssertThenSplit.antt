@@ -9,7 +9,7 @@ use Rattle.me_terms.specs.Positions.{positions_of}
 use Rattle.me_terms.specs.Assert.{MayAssert, IsAssert}
 use Rattle.me_terms.specs.Split.{IsSplit}
 use Rattle.me_terms.specs.Productive.{IsProductiveUnifier}
-use Rattle.me_laws.proofs.Pairing.{apart}
+use Rattle.me_laws.specs.Pairing.{apart}
 use Rattle.me_terms.specs.declared.entry.Kind.TheVariants.{Universal, Parametric}
 use Rattle.me_terms.specs.declared.atom.Pattern.TheVariants.{Any, Of}
 use Rattle.me_laws.proofs.Apart.{apart_general}

@@ -19,7 +19,7 @@ use Rattle.me_terms.specs.Order.{Precedes, clause_key}
 use Rattle.me_terms.specs.Next.{IsFirstRemaining}
 use Rattle.me_terms.specs.Grown.{start}
 use Rattle.me_terms.specs.Outcome.{Met, is_bounded}
-use Rattle.me_laws.proofs.Pairing.{apart}
+use Rattle.me_laws.specs.Pairing.{apart}
 use Rattle.me_terms.specs.declared.bounds.Bound.TheVariants as bound
 use Rattle.me_terms.specs.declared.entry.Kind.TheVariants.{Universal, Parametric}
 use Rattle.me_terms.specs.declared.atom.Literal.{Literal}

@@ -17,7 +17,7 @@ use Rattle.me_terms.specs.LeafList.{Adds, none_waits, adds, IsLeafList}
 use Rattle.me_terms.specs.Grown.{start}
 use Rattle.me_terms.specs.Outcome.{closes, asserts, Closed}
 use Rattle.me_terms.specs.Answer.{HasAnswer, Unsatisfiable}
-use Rattle.me_laws.proofs.Pairing.{apart}
+use Rattle.me_laws.specs.Pairing.{apart}
 use Rattle.me_examples.specs.FirstRun.{p, positive_p, negative_p, clause_p, clause_not_p, first_run, usual_bounds, entry_p, after, first_list}
 use Rattle.me_terms.specs.declared.entry.Kind.TheVariants.{Universal}
 use Rattle.me_terms.specs.declared.atom.Literal.{Literal}

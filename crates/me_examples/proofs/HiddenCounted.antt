@@ -9,7 +9,7 @@ use Rattle.me_terms.specs.Unifier.{IsContextUnifier}
 use Rattle.me_terms.specs.Remainder.{remainder}
 use Rattle.me_terms.specs.Close.{HasClose}
 use Rattle.me_terms.specs.Assert.{IsAssert}
-use Rattle.me_laws.proofs.Pairing.{apart}
+use Rattle.me_laws.specs.Pairing.{apart}
 use Rattle.me_terms.specs.declared.entry.Kind.TheVariants.{Universal}
 use Rattle.me_terms.specs.declared.atom.Pattern.TheVariants.{Of}
 use Rattle.me_laws.proofs.Lists.{all_of, all_at}

@@ -5,7 +5,7 @@ use Rattle.me_terms.specs.Positions.{positions_of}
 use Rattle.me_terms.specs.Unifier.{IsUnifier}
 use Rattle.me_terms.specs.ListedInstances.{constant, IsClosingInstance, IsAskedInstance}
 use Rattle.me_terms.specs.LeafList.{none_waits, adds}
-use Rattle.me_laws.proofs.Pairing.{apart}
+use Rattle.me_laws.specs.Pairing.{apart}
 use Rattle.me_examples.specs.Letters.{b, x0, p_of, literal}
 use Rattle.me_examples.specs.SmallAnswers.{clause_of}
 use Rattle.me_examples.specs.QueueOrder.{instance_of}

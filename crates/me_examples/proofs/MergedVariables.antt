@@ -9,7 +9,7 @@ use Rattle.me_terms.specs.Positions.{positions_of}
 use Rattle.me_terms.specs.Unifier.{IsContextUnifier}
 use Rattle.me_terms.specs.Remainder.{is_variable, remainder}
 use Rattle.me_terms.specs.Close.{IsClose}
-use Rattle.me_laws.proofs.Pairing.{pair, first_of_pair, second_of_pair, apart}
+use Rattle.me_laws.specs.Pairing.{pair, first_of_pair, second_of_pair, apart}
 use Rattle.me_laws.proofs.Apart.{pair_back}
 use Rattle.me_examples.specs.Letters.{a, x0, p, literal, word}
 use Rattle.me_examples.specs.MergedVariables.{denying, wide_entry, wide_context, MergedVariablesClose}

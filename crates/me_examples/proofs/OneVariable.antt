@@ -2,7 +2,7 @@
 use Rattle.std.proofs.Common.{◌≡◌, ℕ, zero, suc, ◌∙◌}
 use Rattle.me_terms.specs.Terms.{TermValue, Var, Arguments, Nil, Cons}
 use Rattle.me_terms.specs.Substitutions.{Family, apply_term}
-use Rattle.me_laws.proofs.Pairing.{pair, apart}
+use Rattle.me_laws.specs.Pairing.{pair, apart}
 use Rattle.me_examples.specs.Letters.{a}
 use Rattle.me_examples.proofs.MergedVariables.{reading, read_back}
 

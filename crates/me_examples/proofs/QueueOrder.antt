@@ -4,7 +4,7 @@ use Rattle.std.specs.List.{Contains}
 use Rattle.me_terms.specs.Positions.{positions_of}
 use Rattle.me_terms.specs.ListedInstances.{constant, IsClosingInstance, IsAskedInstance}
 use Rattle.me_terms.specs.LeafList.{Demand, none_waits, adds}
-use Rattle.me_laws.proofs.Pairing.{apart}
+use Rattle.me_laws.specs.Pairing.{apart}
 use Rattle.me_laws.proofs.Apart.{apart_general}
 use Rattle.me_laws.proofs.Lists.{EachOf, each_contains}
 use Rattle.me_examples.specs.Letters.{literal}

@@ -7,7 +7,7 @@ use Rattle.me_terms.specs.Positions.{positions_of}
 use Rattle.me_terms.specs.Unifier.{IsUnifier}
 use Rattle.me_terms.specs.ListedInstances.{constant, IsClosingInstance, IsAskedInstance}
 use Rattle.me_terms.specs.LeafList.{none_waits, adds}
-use Rattle.me_laws.proofs.Pairing.{pair, apart}
+use Rattle.me_laws.specs.Pairing.{pair, apart}
 use Rattle.me_terms.specs.declared.atom.Literal.{Literal}
 use Rattle.me_examples.specs.Letters.{a, x0, x1, p, literal}
 use Rattle.me_examples.specs.SmallAnswers.{clause_of}

@@ -3,7 +3,7 @@ use Rattle.std.proofs.Common.{◌≡◌, true, false, [], ◌∷◌, refl, arith
 use Rattle.me_terms.specs.Values.{EntryValue}
 use Rattle.me_terms.specs.Context.{IsVisible}
 use Rattle.me_terms.specs.Contradictory.{Clash}
-use Rattle.me_laws.proofs.Pairing.{apart}
+use Rattle.me_laws.specs.Pairing.{apart}
 use Rattle.me_terms.specs.declared.entry.Kind.TheVariants.{Universal}
 use Rattle.me_terms.specs.declared.atom.Pattern.TheVariants.{Of}
 use Rattle.me_laws.proofs.Generality.{generalizes_reflexive}

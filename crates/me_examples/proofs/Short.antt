@@ -10,7 +10,7 @@ use Rattle.me_terms.specs.Unifier.{IsSolvedBy, Solves, IsUnifier, IsContextUnifi
 use Rattle.me_terms.specs.Productive.{IsProductive}
 use Rattle.me_terms.specs.Produces.{Produces}
 use Rattle.me_terms.specs.Measures.{complement}
-use Rattle.me_laws.proofs.Pairing.{apart}
+use Rattle.me_laws.specs.Pairing.{apart}
 use Rattle.me_terms.specs.Remainder.{remainder}
 use Rattle.me_terms.specs.Grown.{start}
 use Rattle.me_terms.specs.declared.entry.Kind.TheVariants.{Universal}

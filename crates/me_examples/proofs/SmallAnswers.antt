@@ -20,7 +20,7 @@ use Rattle.me_terms.specs.Next.{Close, Exhausted, Bounded, IsNext, IsFirstRemain
 use Rattle.me_terms.specs.LeafList.{none_waits, IsLeafList}
 use Rattle.me_terms.specs.Grown.{start}
 use Rattle.me_terms.specs.Outcome.{Closed, Sat, Met, closes, is_exhausted, is_bounded}
-use Rattle.me_laws.proofs.Pairing.{apart}
+use Rattle.me_laws.specs.Pairing.{apart}
 use Rattle.me_terms.specs.declared.bounds.Bound.TheVariants as bound
 use Rattle.me_terms.specs.declared.entry.Kind.TheVariants.{Universal, Parametric}
 use Rattle.me_terms.specs.declared.atom.Literal.{Literal}

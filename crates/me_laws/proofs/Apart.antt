@@ -3,7 +3,7 @@ use Rattle.std.proofs.Common.{◌≡◌, ℕ, zero, suc, ◌+◌, ◌<◌, ◌�
 use Rattle.me_terms.specs.Context.{Context}
 use Rattle.me_terms.specs.Unifier.{Solves, IsUnifier}
 use Rattle.me_terms.specs.declared.atom.Literal.{Literal}
-use Rattle.me_laws.proofs.Pairing.{pair, first_in, second_in, first_of_pair, second_of_pair, apart}
+use Rattle.me_laws.specs.Pairing.{pair, first_in, second_in, first_of_pair, second_of_pair, apart}
 
 even_rest : (x : ℕ) → (x + x) % 2 ≡ 0
 even_rest x = omega arith

@@ -13,7 +13,6 @@ pub mod Lists
 pub mod Model
 pub mod NoContradiction
 pub mod OutcomeDetermined
-pub mod Pairing
 pub mod Reasons
 pub mod Renaming
 pub mod SatisfiableModel

@@ -3,7 +3,7 @@ use Rattle.std.proofs.Common.{◌≡◌, ℕ, zero, suc, ◌+◌, List, [], ◌�
 use Rattle.std.proofs.lemmas.Option.{same_Some}
 use Rattle.me_terms.specs.Terms.{TermValue, Var, App, AtomValue}
 use Rattle.me_terms.specs.Substitutions.{Substitution, Family, apply_term}
-use Rattle.me_laws.proofs.Pairing.{pair, first_of_pair, second_of_pair, apart}
+use Rattle.me_laws.specs.Pairing.{pair, first_of_pair, second_of_pair, apart}
 use Rattle.me_terms.specs.Values.{EntryValue}
 use Rattle.me_terms.specs.Context.{Context, StandsAt}
 use Rattle.me_terms.specs.Unifier.{IsSolvedBy, Solves, IsUnifier}

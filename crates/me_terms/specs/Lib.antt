@@ -11,6 +11,7 @@ pub mod Grown
 pub mod Hashed
 pub mod InducedModel
 pub mod InstanceEqualityLaws
+pub mod Known
 pub mod LabelEquality
 pub mod LabelEqualityLaws
 pub mod Labels

@@ -30,7 +30,7 @@ pub use bounds::{Bound, Bounds};
 pub use canonical_form::canonical;
 pub use clause::{Clause, Clauses};
 pub use entry::{Entries, Entry, Kind, Reason};
-pub use matching::{generalizes, is_variant, matches, strictly_more_general};
+pub use matching::{generalizes, is_variant, is_variant_of, matches, strictly_more_general};
 pub use measures::{depth_of, is_ground, weight_of};
 pub use problem::Problem;
 pub use sequence::{Places, Sequence};

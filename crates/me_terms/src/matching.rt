@@ -107,6 +107,16 @@ pub fn is_variant(a: &Atom, b: &Atom) -> bool
     generalizes(a, b) && generalizes(b, a)
 }
 
+/// Whether the pattern is a variant of the atom. The pseudo-atom is none.
+pub fn is_variant_of(a: &Pattern, b: &Atom) -> bool
+    ensures { IsTrue result ↔ IsVariant a.now (pattern.Of b.now) }
+{
+    match a {
+        Pattern::Any => false,
+        Pattern::Of(own) => is_variant(own, b),
+    }
+}
+
 /// Whether the atom is an instance of the pattern, and not the other way round.
 pub fn strictly_more_general(a: &Pattern, b: &Atom) -> bool
     ensures { IsTrue result ↔ IsStrictlyMoreGeneral a.now (pattern.Of b.now) }

@@ -6,7 +6,7 @@ use Rattle.std.proofs.lemmas.List.Elements.{All-push}
 use Rattle.std.proofs.lemmas.Option.{slice_get_within}
 use Rattle.me_terms.specs.Terms.{AtomValue, Var, App}
 use Rattle.me_terms.specs.Substitutions.{Substitution, Family, apply_term, apply_arguments, apply_atom}
-use Rattle.me_laws.proofs.Pairing.{first_of_pair, second_of_pair, apart}
+use Rattle.me_laws.specs.Pairing.{first_of_pair, second_of_pair, apart}
 use Rattle.me_laws.proofs.Apart.{pair_back}
 use Rattle.me_laws.proofs.Generality.{arguments_unchanged}
 use Rattle.me_unify.specs.declared.links.Links.{Links}

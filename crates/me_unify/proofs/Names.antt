@@ -7,7 +7,7 @@ use Rattle.std.proofs.lemmas.Option.{slice_get_within}
 use Rattle.me_terms.specs.Terms.{TermValue, Cons, arguments_of}
 use Rattle.me_terms.specs.Substitutions.{Substitution, apply_term, apply_arguments}
 use Rattle.me_terms.specs.Variables.{first_ones, place_of}
-use Rattle.me_laws.proofs.Pairing.{pair, first_of_pair, second_of_pair}
+use Rattle.me_laws.specs.Pairing.{pair, first_of_pair, second_of_pair}
 use Rattle.me_laws.proofs.Apart.{pair_back}
 use Rattle.me_unify.specs.Left.{numbers}
 

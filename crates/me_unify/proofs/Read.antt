@@ -4,7 +4,7 @@ use Rattle.std.proofs.lemmas.Option.{slice_get_within}
 use Rattle.me_terms.specs.Terms.{AtomValue, Arguments}
 use Rattle.me_terms.specs.Substitutions.{Substitution, Family, apply_term, apply_arguments, apply_atom}
 use Rattle.me_terms.specs.Variables.{weights, depths, are_ground}
-use Rattle.me_laws.proofs.Pairing.{pair, first_of_pair, second_of_pair, apart}
+use Rattle.me_laws.specs.Pairing.{pair, first_of_pair, second_of_pair, apart}
 use Rattle.me_laws.proofs.Apart.{pair_back}
 use Rattle.me_laws.proofs.Generality.{atom_followed}
 use Rattle.me_laws.proofs.NoContradiction.{ground_atom}

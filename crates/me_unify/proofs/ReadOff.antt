@@ -9,7 +9,7 @@ use Rattle.me_terms.specs.Measures.{canonical_literal}
 use Rattle.me_terms.specs.Variables.{first_ones, variables_of, place_of}
 use Rattle.me_terms.specs.ListedInstances.{constant}
 use Rattle.me_terms.specs.declared.atom.Literal.{Literal}
-use Rattle.me_laws.proofs.Pairing.{apart}
+use Rattle.me_laws.specs.Pairing.{apart}
 use Rattle.me_laws.proofs.Generality.{atom_followed}
 use Rattle.me_laws.proofs.Renaming.{Variants, canonical_same}
 use Rattle.std.proofs.lemmas.Option.{slice_get_within}

@@ -1,6 +1,6 @@
 -- What variables and nodes stand for, read off the links. A variable that is left stands for itself.
 use Rattle.std.specs.Prelude.{◌≡◌, ℕ, List, length, map, slice_get, Some}
-use Rattle.me_laws.proofs.Pairing.{pair, apart}
+use Rattle.me_laws.specs.Pairing.{pair, apart}
 use Rattle.me_terms.specs.Substitutions.{Family}
 use Rattle.me_unify.specs.declared.links.Links.{Links}
 use Rattle.me_unify.specs.declared.node.Node.{Node}

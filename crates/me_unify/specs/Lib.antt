@@ -1,3 +1,4 @@
+pub mod ClauseEquations
 pub mod Equations
 pub mod Indexed
 pub mod Left

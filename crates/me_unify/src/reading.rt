@@ -3,7 +3,7 @@
 //! The walk follows links to a node that is not linked, and goes on into its arguments. A variable that is
 //! left becomes the number of its place among those that were met so far.
 ghost use Rattle.std.specs.Prelude.{◌≡◌, ℕ, ◌<◌, ◌++◌, ◌∷◌, [], List, OnOk, IfOk, length, slice_index};
-ghost use Rattle.me_laws.proofs.Pairing.{pair};
+ghost use Rattle.me_laws.specs.Pairing.{pair};
 ghost use Rattle.me_terms.specs.TermViews.{term_value};
 ghost use Rattle.me_terms.specs.Terms.{arguments_of};
 ghost use Rattle.me_terms.specs.Substitutions.{Family, apply_term, apply_arguments, apply_atom, apply_literal};

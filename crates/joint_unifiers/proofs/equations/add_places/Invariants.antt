@@ -1,7 +1,7 @@
 use Rattle.std.proofs.Common.{◌≡◌, ◌++◌}
 use Rattle.me_terms.specs.Positions.{positions_of}
 use Rattle.me_unify.specs.Equations.{IsSolvable}
-use Rattle.joint_unifiers.specs.ClauseEquations.{clause_equations}
+use Rattle.me_unify.specs.ClauseEquations.{clause_equations}
 use Rattle.joint_unifiers.proofs.Adding.{left_from}
 use Rattle.joint_unifiers.proofs.equations.add_places.Given as goal
 

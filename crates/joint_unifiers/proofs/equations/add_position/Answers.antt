@@ -2,7 +2,7 @@ use Rattle.std.proofs.Common.{◌↔◌, ◌++◌, IsTrue, Option, subst}
 use Rattle.std.specs.Prelude.{IfOk}
 use Rattle.me_terms.specs.Values.{EntryValue}
 use Rattle.me_unify.specs.Equations.{IsSolvable}
-use Rattle.joint_unifiers.specs.ClauseEquations.{equations_at}
+use Rattle.me_unify.specs.ClauseEquations.{equations_at}
 use Rattle.joint_unifiers.proofs.equations.add_position.Goals as goal
 
 pub returns-in-Some-entry-clause-exact : goal.returns-in-Some-entry-clause-exact

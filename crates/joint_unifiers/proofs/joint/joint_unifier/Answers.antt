@@ -3,7 +3,7 @@ use Rattle.me_terms.specs.Positions.{positions_of}
 use Rattle.me_terms.specs.Values.{ClauseValue}
 use Rattle.me_terms.specs.declared.atom.Literal.{Literal}
 use Rattle.me_unify.specs.Equations.{Equation, IsSolvable, IsMostGeneral}
-use Rattle.joint_unifiers.specs.ClauseEquations.{clause_equations}
+use Rattle.me_unify.specs.ClauseEquations.{clause_equations}
 use Rattle.joint_unifiers.proofs.Bridge.{general_of}
 use Rattle.joint_unifiers.proofs.ContextUnifiers.{some_unifier, some_solution, is_unifier}
 use Rattle.joint_unifiers.proofs.joint.joint_unifier.Goals as goal

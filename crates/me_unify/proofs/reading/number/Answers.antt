@@ -1,7 +1,7 @@
 use Rattle.std.proofs.Common.{◌++◌, ap, sym, ◌∙◌}
 use Rattle.me_terms.specs.Variables.{place_of}
 use Rattle.me_terms.proofs.Numbered.{placed}
-use Rattle.me_laws.proofs.Pairing.{pair}
+use Rattle.me_laws.specs.Pairing.{pair}
 use Rattle.me_unify.specs.Left.{numbers}
 use Rattle.me_unify.proofs.Names.{same_place, same_names}
 use Rattle.me_unify.proofs.reading.number.Goals as goal
