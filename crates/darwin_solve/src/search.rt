@@ -19,12 +19,12 @@ ghost use Rattle.darwin_solve.specs.Leaves.{leaf_value};
 ghost use Rattle.darwin_solve.specs.Turns.{Descends, HasNoLeft, IsTurned, beside_left};
 
 use crate::found::{Found, join_lists};
-use branch_walk::next_step;
 use ground_refutation::{ListError, instances_of};
 use me_terms::{
     Again, Bound, Bounds, Entry, Instances, Kind, Literal, Next, Pattern, Problem, Reason, Trunk,
     Tuple,
 };
+use next_rule::next_step;
 use std::alloc::{AllocError, Global};
 
 /// A problem and bounds.

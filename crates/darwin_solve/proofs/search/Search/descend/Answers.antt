@@ -4,7 +4,7 @@ use Rattle.me_terms.specs.Context.{add}
 use Rattle.me_terms.specs.Next.{IsNext}
 use Rattle.me_terms.specs.AnswerViews.{next_value}
 use Rattle.me_terms.specs.declared.answer.Next.{Next}
-use Rattle.branch_walk.specs.NextLaws.{IsAddedBy, MayBeAdded}
+use Rattle.next_rule.specs.NextLaws.{IsAddedBy, MayBeAdded}
 use Rattle.darwin_solve.specs.Turns.{stays, asserts, goes_left}
 use Rattle.darwin_solve.proofs.search.Search.descend.Goals as goal
 

@@ -1,7 +1,0 @@
-use Rattle.std.proofs.Common.{None}
-use Rattle.branch_walk.specs.SplitSearches.{SplitClauses, Looks}
-use Rattle.branch_walk.proofs.search.Search.split.Given as goal
-
-abbrev pub invariant-loop-c : goal.invariant-loop-c
-invariant-loop-c g l =
-    Looks l.self.problem.now l.self.bounds.now (g.V.View.context l.self.view.now) (SplitClauses l.c) (record { best = None; met = None }) l.state
