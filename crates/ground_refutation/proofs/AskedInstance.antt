@@ -19,7 +19,8 @@ use Rattle.me_laws.proofs.NoContradiction.{ground_atom}
 use Rattle.me_laws.proofs.OutcomeDetermined.{Has, has_decided, each_has, lacks}
 use Rattle.me_existence.proofs.Splits.{contains_decided}
 use Rattle.me_unify.specs.Equations.{Equation, equation, SolvesOne, SolvesAll, IsSolvable, IsMostGeneral}
-use Rattle.ground_refutation.specs.Places.{place_equations, asked_equations}
+use Rattle.me_unify.specs.ClauseEquations.{equations_from}
+use Rattle.ground_refutation.specs.AskedEquations.{asked_equations}
 use Rattle.ground_refutation.proofs.Solving.{each_of, solves_places, places_solved, one_followed}
 
 -- ---- a substitution that leaves all variables alone but those of a list
@@ -76,7 +77,7 @@ module _ (problem : ProblemValue) (context : Context) (c place : ℕ) (tuple : L
   own = apply_atom (q.family 0) q.literal.atom
 
   abbrev qs : List Equation
-  qs = place_equations 0 context ls ks
+  qs = equations_from 0 context ls ks
 
   abbrev last : Equation
   last = equation 0 q.literal.atom 0 g.atom

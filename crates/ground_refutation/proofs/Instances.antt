@@ -14,7 +14,8 @@ use Rattle.me_terms.specs.ListedInstances.{constant, instance_of, IsClosingInsta
 use Rattle.me_terms.specs.declared.atom.Literal.{Literal}
 use Rattle.me_laws.proofs.OutcomeDetermined.{closing_unique}
 use Rattle.me_unify.specs.Equations.{Equation, equation, IsSolvable, IsMostGeneral}
-use Rattle.ground_refutation.specs.Places.{place_equations, asked_equations}
+use Rattle.me_unify.specs.ClauseEquations.{equations_from}
+use Rattle.ground_refutation.specs.AskedEquations.{asked_equations}
 use Rattle.ground_refutation.specs.Queue.{IsAskedFor}
 use Rattle.ground_refutation.proofs.Solving.{is_unifier, is_most_general, is_solvable}
 use Rattle.ground_refutation.proofs.AskedInstance as asked
@@ -30,7 +31,7 @@ few_literals problem valid c ls those x at =
 -- ---- the closing instance
 module _ (problem : ProblemValue) (context : Context) (c : ℕ) (ks : List (Option ℕ)) (ls : List Literal) (those : (x : ClauseValue) → ClauseAt problem c x → ls ≡ x.literals) where
   abbrev qs : List Equation
-  qs = place_equations 0 context ls ks
+  qs = equations_from 0 context ls ks
 
   module _ (tuple : List ℕ) (are : ks ≡ positions_of None tuple) (close : IsClose problem context c tuple) where
     unifier : IsUnifier context ls ks close.family
@@ -69,9 +70,9 @@ module _ (problem : ProblemValue) (context : Context) (c place : ℕ) (ks : List
   same_equations : asked_equations context ls ks own g ≡ asked_equations context q.clause.literals (positions_of (Some place) h.tuple) q.literal g
   same_equations = λ i. asked_equations context (same_literals i) (h.positions_are i) (same_own i) g
 
-  pub others_solvable : IsSolvable (place_equations 0 context ls ks)
+  pub others_solvable : IsSolvable (equations_from 0 context ls ks)
   others_solvable =
-      let P : List Literal × List (Option ℕ) → Type 0 = λ z. IsSolvable (place_equations 0 context z.0 z.1) in
+      let P : List Literal × List (Option ℕ) → Type 0 = λ z. IsSolvable (equations_from 0 context z.0 z.1) in
       subst P (λ i. (sym same_literals i, sym h.positions_are i)) (asked.others_solvable problem context c place h.tuple g literals q h.ground)
 
   pub asked_solvable : IsSolvable (asked_equations context ls ks own g)

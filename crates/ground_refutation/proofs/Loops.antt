@@ -16,7 +16,7 @@ use Rattle.me_terms.specs.LeafList.{Demand, demands}
 use Rattle.me_terms.specs.declared.atom.Literal.{Literal}
 use Rattle.me_unify.specs.Equations.{Equation, IsSolvable, SolvesOne}
 use Rattle.me_laws.proofs.Lists.{each_left, all_of}
-use Rattle.ground_refutation.specs.Places.{entry_equation, place_equations}
+use Rattle.me_unify.specs.ClauseEquations.{equations_at, equations_from}
 use Rattle.ground_refutation.proofs.Solving.{each_of}
 use Rattle.ground_refutation.proofs.Weights.{instance_literal_weight}
 
@@ -57,36 +57,36 @@ none_left u c ls before whole k le h =
 -- ---- the places of a clause
 module _ (context : Context) (ls : List Literal) (ks : List (Option ℕ)) (i : ℕ) where
   abbrev later : List Equation
-  later = place_equations (i + 1) context (drop (i + 1) ls) (drop (i + 1) ks)
+  later = equations_from (i + 1) context (drop (i + 1) ls) (drop (i + 1) ks)
 
   module _ (l : Literal) (lt : i < length ls) (lt' : i < length ks) (is : l ≡ get_or ls i l) where
     abbrev here : List Equation
-    here = entry_equation i (entry_at context (get_or ks i None)) l.atom
+    here = equations_at (i + 1) (entry_at context (get_or ks i None)) l
 
-    left_equations : place_equations i context (drop i ls) (drop i ks) ≡ here ++ later
-    left_equations = λ t. place_equations i context (next_item ls i l lt is t) (next_at ks i None lt' t)
+    left_equations : equations_from i context (drop i ls) (drop i ks) ≡ here ++ later
+    left_equations = λ t. equations_from i context (next_item ls i l lt is t) (next_at ks i None lt' t)
 
-    pub bound_more : (before whole : List Equation) → before ++ place_equations i context (drop i ls) (drop i ks) ≡ whole → (before ++ here) ++ later ≡ whole
+    pub bound_more : (before whole : List Equation) → before ++ equations_from i context (drop i ls) (drop i ks) ≡ whole → (before ++ here) ++ later ≡ whole
     bound_more before whole h = append_assoc before here later ∙ (ap (λ (qs : List Equation). before ++ qs) (sym left_equations) ∙ h)
 
     -- its equation has a solution with those before it
-    pub still_solvable : (before whole : List Equation) → before ++ place_equations i context (drop i ls) (drop i ks) ≡ whole → IsSolvable whole → IsSolvable (before ++ here)
+    pub still_solvable : (before whole : List Equation) → before ++ equations_from i context (drop i ls) (drop i ks) ≡ whole → IsSolvable whole → IsSolvable (before ++ here)
     still_solvable before whole h solvable =
         let s = subst IsSolvable (sym (bound_more before whole h)) solvable in
         (s.0, all_of (SolvesOne s.0) (before ++ here) (each_left (SolvesOne s.0) (before ++ here) later (each_of (SolvesOne s.0) ((before ++ here) ++ later) s.1)))
 
-  no_literals : (ms : List Literal) → ms ≡ [] → place_equations i context ms (drop i ks) ≡ []
-  no_literals ms h = ap (λ (ns : List Literal). place_equations i context ns (drop i ks)) h
+  no_literals : (ms : List Literal) → ms ≡ [] → equations_from i context ms (drop i ks) ≡ []
+  no_literals ms h = ap (λ (ns : List Literal). equations_from i context ns (drop i ks)) h
 
-  no_positions : (ms : List Literal) (os : List (Option ℕ)) → os ≡ [] → place_equations i context ms os ≡ []
+  no_positions : (ms : List Literal) (os : List (Option ℕ)) → os ≡ [] → equations_from i context ms os ≡ []
   no_positions [] os h = refl
   no_positions (m ∷ ms) [] h = refl
   no_positions (m ∷ ms) (o ∷ os) h = cc
 
-  pub all_bound : (before whole : List Equation) → min (length ls) (length ks) ≤ i → before ++ place_equations i context (drop i ls) (drop i ks) ≡ whole → before ≡ whole
+  pub all_bound : (before whole : List Equation) → min (length ls) (length ks) ≤ i → before ++ equations_from i context (drop i ls) (drop i ks) ≡ whole → before ≡ whole
   all_bound before whole le h =
-      let none : place_equations i context (drop i ls) (drop i ks) ≡ [] =
-      elim (cases_lt i (length ls)) as (λ _. place_equations i context (drop i ls) (drop i ks) ≡ []) [
+      let none : equations_from i context (drop i ls) (drop i ks) ≡ [] =
+      elim (cases_lt i (length ls)) as (λ _. equations_from i context (drop i ls) (drop i ks) ≡ []) [
         | inl lt ↦ no_positions (drop i ls) (drop i ks) (drop_of_length-le ks (omega (arith, le, lt)))
         | inr ge ↦ no_literals (drop i ls) (drop_of_length-le ls ge)
       ] in

@@ -39,7 +39,7 @@ use Rattle.me_refutation.proofs.Demands.{IsRight, IsRightBelow}
 use Rattle.me_refutation.proofs.Asked.{asked_facts, AskedFacts}
 use Rattle.me_refutation.proofs.Leaf.{closing_facts, ClosingFacts}
 use Rattle.me_unify.specs.Equations.{IsMostGeneral}
-use Rattle.ground_refutation.specs.Places.{place_equations}
+use Rattle.me_unify.specs.ClauseEquations.{equations_from}
 use Rattle.ground_refutation.specs.Queue.{same_demand, Completes, IsAskedFor}
 use Rattle.ground_refutation.specs.Work.{longest, work, work_all}
 use Rattle.ground_refutation.proofs.Listing.{one_more}

@@ -1,4 +1,4 @@
+pub mod AskedEquations
 pub mod LeafRefuted
-pub mod Places
 pub mod Queue
 pub mod Work

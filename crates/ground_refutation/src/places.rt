@@ -5,7 +5,7 @@
 ghost use Rattle.std.specs.Prelude.{◌≡◌, ◌≤◌, ◌<◌, ◌-◌, ◌^◌, ◌++◌, MatchOption, IfOk, OnOk, length, map};
 ghost use Rattle.me_terms.specs.Positions.{positions_of, entry_at};
 ghost use Rattle.me_unify.specs.Equations.{IsSolvable};
-ghost use Rattle.ground_refutation.specs.Places.{entry_equation, place_equations};
+ghost use Rattle.me_unify.specs.ClauseEquations.{equations_at, equations_from};
 
 use me_terms::{Literal, Pattern, Tuple, View};
 use me_unify::Bindings;
@@ -50,8 +50,8 @@ fn bind<V: View>(
     position: Option<u32>,
 ) -> Result<(), AllocError>
     requires space { i < 2 ^ 32 - 1 }
-    requires solvable { IsSolvable (bindings.old ++ entry_equation i (entry_at (V.context view.now) position) literal.now.atom) }
-    ensures { OnOk result (bindings.new ≡ bindings.old ++ entry_equation i (entry_at (V.context view.now) position) literal.now.atom) }
+    requires solvable { IsSolvable (bindings.old ++ equations_at (i + 1) (entry_at (V.context view.now) position) literal.now) }
+    ensures { OnOk result (bindings.new ≡ bindings.old ++ equations_at (i + 1) (entry_at (V.context view.now) position) literal.now) }
 {
     let Some(k) = position else {
         return Ok(());
@@ -77,8 +77,8 @@ pub(crate) fn bind_all<V: View>(
     positions: &[Option<u32>],
 ) -> Result<(), AllocError>
     requires few { length literals.now < 2 ^ 32 - 1 }
-    requires solvable { IsSolvable (bindings.old ++ place_equations 0 (V.context view.now) literals.now positions.now) }
-    ensures { OnOk result (bindings.new ≡ bindings.old ++ place_equations 0 (V.context view.now) literals.now positions.now) }
+    requires solvable { IsSolvable (bindings.old ++ equations_from 0 (V.context view.now) literals.now positions.now) }
+    ensures { OnOk result (bindings.new ≡ bindings.old ++ equations_from 0 (V.context view.now) literals.now positions.now) }
 {
     for i in 0..literals.len().min(positions.len()) {
         bind(bindings, view, i as u32, &literals[i], positions[i])?;

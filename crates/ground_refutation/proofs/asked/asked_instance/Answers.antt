@@ -5,7 +5,8 @@ use Rattle.me_terms.specs.Measures.{literals_weight}
 use Rattle.me_terms.specs.ListedInstances.{constant, instance_of}
 use Rattle.me_terms.specs.declared.atom.Literal.{Literal}
 use Rattle.me_unify.specs.Equations.{Equation, equation, IsSolvable, IsMostGeneral}
-use Rattle.ground_refutation.specs.Places.{place_equations, asked_equations}
+use Rattle.me_unify.specs.ClauseEquations.{equations_from}
+use Rattle.ground_refutation.specs.AskedEquations.{asked_equations}
 use Rattle.ground_refutation.specs.Queue.{IsAskedFor}
 use Rattle.instance_lists.specs.declared.error.ListError.{ListError}
 use Rattle.instance_lists.specs.declared.error.ListError.TheVariants.{TooHeavy}
@@ -20,7 +21,7 @@ bind_all-requires-clause-solvable g c =
     let ls = c.literals_of-literals.result.now in
     let asked = c.requires.asked in
     let solvable = others_solvable c.args.problem.now context c.args.clause c.args.place c.args.positions.now c.args.asked.now ls c.index-literals-place.result asked.0 asked.1 c.literals_of-literals.ensures c.index-literals-place.is in
-    let P : List Equation → Type 0 = λ qs. IsSolvable (qs ++ place_equations 0 context ls c.args.positions.now) in
+    let P : List Equation → Type 0 = λ qs. IsSolvable (qs ++ equations_from 0 context ls c.args.positions.now) in
     subst P (sym c.new-bindings.ensures) solvable
 
 pub prove-unreachable-requires : goal.prove-unreachable-requires
@@ -32,7 +33,7 @@ prove-unreachable-requires g c =
     let g' = c.args.asked.now in
     let asked = c.requires.asked in
     let solvable = asked_solvable c.args.problem.now context c.args.clause c.args.place ks g' ls own asked.0 asked.1 c.literals_of-literals.ensures c.index-literals-place.is in
-    let places : c.bind_all.new.bindings ≡ place_equations 0 context ls ks = c.in_ok-bind_all.ensures ∙ ap (λ (qs : List Equation). qs ++ place_equations 0 context ls ks) c.new-bindings.ensures in
+    let places : c.bind_all.new.bindings ≡ equations_from 0 context ls ks = c.in_ok-bind_all.ensures ∙ ap (λ (qs : List Equation). qs ++ equations_from 0 context ls ks) c.new-bindings.ensures in
     let P : List Equation → Type 0 = λ qs. IsSolvable (qs ++ equation 0 own.atom 0 g'.atom ∷ []) in
     let yes : c.in_ok-unified.unified ≡ true = c.in_ok-unified.ensures.exact.1 (subst P (sym places) solvable) in
     cc (yes, c.if-prove.true)
@@ -44,7 +45,7 @@ returns-clause-exact g c =
     let ks = c.args.positions.now in
     let own = c.index-literals-place.result in
     let g' = c.args.asked.now in
-    let places : c.bind_all.new.bindings ≡ place_equations 0 context ls ks = c.in_ok-bind_all.ensures ∙ ap (λ (qs : List Equation). qs ++ place_equations 0 context ls ks) c.new-bindings.ensures in
+    let places : c.bind_all.new.bindings ≡ equations_from 0 context ls ks = c.in_ok-bind_all.ensures ∙ ap (λ (qs : List Equation). qs ++ equations_from 0 context ls ks) c.new-bindings.ensures in
     let all : c.unify.new.self ≡ asked_equations context ls ks own g' = c.in_ok-unified.ensures.yes c.if-prove.false ∙ ap (λ (qs : List Equation). qs ++ equation 0 own.atom 0 g'.atom ∷ []) places in
     let v = c.in_ok-unified.ensures.unifier c.if-prove.false in
     let most = subst (λ (qs : List Equation). IsMostGeneral qs v.0) all v.1 in
@@ -62,7 +63,7 @@ returns-clause-heavy g c =
     let ks = c.args.positions.now in
     let own = c.index-literals-place.result in
     let g' = c.args.asked.now in
-    let places : c.bind_all.new.bindings ≡ place_equations 0 context ls ks = c.in_ok-bind_all.ensures ∙ ap (λ (qs : List Equation). qs ++ place_equations 0 context ls ks) c.new-bindings.ensures in
+    let places : c.bind_all.new.bindings ≡ equations_from 0 context ls ks = c.in_ok-bind_all.ensures ∙ ap (λ (qs : List Equation). qs ++ equations_from 0 context ls ks) c.new-bindings.ensures in
     let all : c.unify.new.self ≡ asked_equations context ls ks own g' = c.in_ok-unified.ensures.yes c.if-prove.false ∙ ap (λ (qs : List Equation). qs ++ equation 0 own.atom 0 g'.atom ∷ []) places in
     let v = c.in_ok-unified.ensures.unifier c.if-prove.false in
     let most = subst (λ (qs : List Equation). IsMostGeneral qs v.0) all v.1 in

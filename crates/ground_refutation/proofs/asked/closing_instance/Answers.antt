@@ -7,7 +7,7 @@ use Rattle.me_terms.specs.ListedInstances.{constant, instance_of, IsClosingInsta
 use Rattle.me_terms.specs.declared.atom.Literal.{Literal}
 use Rattle.me_laws.proofs.OutcomeDetermined.{closing_unique}
 use Rattle.me_unify.specs.Equations.{Equation, IsSolvable, IsMostGeneral}
-use Rattle.ground_refutation.specs.Places.{place_equations}
+use Rattle.me_unify.specs.ClauseEquations.{equations_from}
 use Rattle.instance_lists.specs.declared.error.ListError.{ListError}
 use Rattle.instance_lists.specs.declared.error.ListError.TheVariants.{TooHeavy}
 use Rattle.ground_refutation.specs.declared.instance.Weighed.{Weighed}
@@ -21,7 +21,7 @@ bind_all-requires-clause-solvable g c =
     let ls = c.literals_of-literals.result.now in
     let close = c.requires.close in
     let solvable = closing_solvable c.args.problem.now context c.args.clause c.args.positions.now ls c.literals_of-literals.ensures close.0 close.1 close.2 in
-    let P : List Equation → Type 0 = λ qs. IsSolvable (qs ++ place_equations 0 context ls c.args.positions.now) in
+    let P : List Equation → Type 0 = λ qs. IsSolvable (qs ++ equations_from 0 context ls c.args.positions.now) in
     subst P (sym c.new-bindings.ensures) solvable
 
 pub instance_within-requires-clause-unifier : goal.instance_within-requires-clause-unifier
@@ -30,7 +30,7 @@ instance_within-requires-clause-unifier g c =
     let ls = c.literals_of-literals.result.now in
     let ks = c.args.positions.now in
     let close = c.requires.close in
-    let places : c.bind_all.new.bindings ≡ place_equations 0 context ls ks = c.in_ok-bind_all.ensures ∙ ap (λ (qs : List Equation). qs ++ place_equations 0 context ls ks) c.new-bindings.ensures in
+    let places : c.bind_all.new.bindings ≡ equations_from 0 context ls ks = c.in_ok-bind_all.ensures ∙ ap (λ (qs : List Equation). qs ++ equations_from 0 context ls ks) c.new-bindings.ensures in
     let P : List Equation → Type 0 = λ qs. (u : Family) × IsMostGeneral qs u in
     subst P (sym places) (closing_unifier c.args.problem.now context c.args.clause ks ls c.literals_of-literals.ensures close.0 close.1 close.2)
 
@@ -40,7 +40,7 @@ returns-clause-closing g c =
     let ls = c.literals_of-literals.result.now in
     let ks = c.args.positions.now in
     let close = c.requires.close in
-    let places : c.bind_all.new.bindings ≡ place_equations 0 context ls ks = c.in_ok-bind_all.ensures ∙ ap (λ (qs : List Equation). qs ++ place_equations 0 context ls ks) c.new-bindings.ensures in
+    let places : c.bind_all.new.bindings ≡ equations_from 0 context ls ks = c.in_ok-bind_all.ensures ∙ ap (λ (qs : List Equation). qs ++ equations_from 0 context ls ks) c.new-bindings.ensures in
     let most = closing_unifier c.args.problem.now context c.args.clause ks ls c.literals_of-literals.ensures close.0 close.1 close.2 in
     let c0 : c.problem.inside.c0 ≡ c.args.problem.now.c0 = ap (λ (p : ProblemValue). p.c0) c.problem.view_is in
     let there = subst (λ (qs : List Equation). IsMostGeneral qs most.0) (sym places) most.1 in
@@ -56,7 +56,7 @@ returns-clause-heavy g c =
     let ls = c.literals_of-literals.result.now in
     let ks = c.args.positions.now in
     let close = c.requires.close in
-    let places : c.bind_all.new.bindings ≡ place_equations 0 context ls ks = c.in_ok-bind_all.ensures ∙ ap (λ (qs : List Equation). qs ++ place_equations 0 context ls ks) c.new-bindings.ensures in
+    let places : c.bind_all.new.bindings ≡ equations_from 0 context ls ks = c.in_ok-bind_all.ensures ∙ ap (λ (qs : List Equation). qs ++ equations_from 0 context ls ks) c.new-bindings.ensures in
     let most = closing_unifier c.args.problem.now context c.args.clause ks ls c.literals_of-literals.ensures close.0 close.1 close.2 in
     let c0 : c.problem.inside.c0 ≡ c.args.problem.now.c0 = ap (λ (p : ProblemValue). p.c0) c.problem.view_is in
     let there = subst (λ (qs : List Equation). IsMostGeneral qs most.0) (sym places) most.1 in

@@ -1,5 +1,5 @@
 use Rattle.std.proofs.Common.{◌≡◌, ◌++◌, ◌<◌, ◌≤◌, length, min, arith}
-use Rattle.ground_refutation.specs.Places.{place_equations}
+use Rattle.me_unify.specs.ClauseEquations.{equations_from}
 use Rattle.ground_refutation.proofs.Loops.{still_solvable, all_bound, bound_more}
 use Rattle.ground_refutation.proofs.places.bind_all.Goals as goal
 

@@ -1,0 +1,3 @@
+% The closing instance would weigh 3 * (2^41 - 2) - 40, so it is never written.
+cnf(c1, axiom, e(X,f(X,X))).
+cnf(c2, axiom, ~e(X0,X1) | ~e(X1,X2) | ~e(X2,X3) | ~e(X3,X4) | ~e(X4,X5) | ~e(X5,X6) | ~e(X6,X7) | ~e(X7,X8) | ~e(X8,X9) | ~e(X9,X10) | ~e(X10,X11) | ~e(X11,X12) | ~e(X12,X13) | ~e(X13,X14) | ~e(X14,X15) | ~e(X15,X16) | ~e(X16,X17) | ~e(X17,X18) | ~e(X18,X19) | ~e(X19,X20) | ~e(X20,X21) | ~e(X21,X22) | ~e(X22,X23) | ~e(X23,X24) | ~e(X24,X25) | ~e(X25,X26) | ~e(X26,X27) | ~e(X27,X28) | ~e(X28,X29) | ~e(X29,X30) | ~e(X30,X31) | ~e(X31,X32) | ~e(X32,X33) | ~e(X33,X34) | ~e(X34,X35) | ~e(X35,X36) | ~e(X36,X37) | ~e(X37,X38) | ~e(X38,X39) | ~e(X39,X40)).

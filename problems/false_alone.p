@@ -1,0 +1,1 @@
+cnf(e,axiom,$false).

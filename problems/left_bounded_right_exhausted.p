@@ -1,0 +1,4 @@
+% The bound is met where p is true. Where it is false, nothing is left to do.
+cnf(c1, axiom, p | q).
+cnf(c2, axiom, ~p | r(a)).
+cnf(c3, axiom, ~r(X) | r(f(X))).
