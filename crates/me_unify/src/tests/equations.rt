@@ -39,6 +39,7 @@ fn the_first_equation_outlives_the_second(rt: HostRuntime) -> Result<(), Fail> {
     let mut bindings = Bindings::new(alloc);
     assert!(rt; unify(alloc, &mut bindings, b"p(X)", b"p(f(Y))")?);
     assert!(rt; unify(alloc, &mut bindings, b"p(X)", b"p(f(a()))")?);
+    assert!(rt; bindings.mark() == 2);
     bindings.undo(1);
     assert!(rt; reads(alloc, &bindings, 0, b"p(X)", b"p(f(A))")?);
     Ok(())
