@@ -87,14 +87,14 @@ fn two(alloc: Global, pred: u32) -> Result<Literals, AllocError>
     Ok(with(alloc, first, pred, Term::Var(0))?)
 }
 
-/// p(X) six times.
+/// p(X), and q(X) five times.
 fn six(alloc: Global) -> Result<Literals, AllocError>
     ensures { IfOk result (λ ls. length ls.items ≡ 6) }
 {
-    let three = with(alloc, two(alloc, 0)?, 0, Term::Var(0))?;
-    let four = with(alloc, three, 0, Term::Var(0))?;
-    let five = with(alloc, four, 0, Term::Var(0))?;
-    Ok(with(alloc, five, 0, Term::Var(0))?)
+    let three = with(alloc, two(alloc, 1)?, 1, Term::Var(0))?;
+    let four = with(alloc, three, 1, Term::Var(0))?;
+    let five = with(alloc, four, 1, Term::Var(0))?;
+    Ok(with(alloc, five, 1, Term::Var(0))?)
 }
 
 fn clause(alloc: Global, literals: Literals) -> Clause
@@ -157,16 +157,13 @@ fn a_remainder_may_be_ruled_out_later(rt: HostRuntime) -> Result<(), Fail> {
     Ok(())
 }
 
-/// Six literals that must have one constant, of 200: no tuple is tried but those whose positions are equal.
+/// Six literals against 200 entries, of which none denies q: no more than two positions of a tuple are tried.
 #[test]
 fn prefixes_without_unifier_are_left(rt: HostRuntime) -> Result<(), Fail> {
     let alloc = rt.alloc();
-    let context = denied(alloc, 200)?;
+    let context = denied(alloc, 199)?;
     let literals = six(alloc)?;
     let mut cursor = Cursor::new(alloc, &literals, None, Some(0), &context);
-    for k in 1..=200 {
-        assert!(rt; goes_to(&mut cursor, &[k, k, k, k, k, k])?);
-    }
     assert!(rt; !cursor.advance()?);
     Ok(())
 }

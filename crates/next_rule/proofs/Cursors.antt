@@ -1,5 +1,6 @@
 -- The steps of a cursor over the tuples of a clause.
 use Rattle.std.proofs.Common.{◌≡◌, ℕ, ◌<◌, List, length, Option, Some, None, refl, sym, subst, ap, ◌∙◌}
+use Rattle.std.proofs.lemmas.Option.{same_Some}
 use Rattle.me_terms.specs.Context.{Context}
 use Rattle.me_terms.specs.declared.atom.Literal.{Literal}
 use Rattle.context_unifier.specs.Enumeration.{IsNextTuple, IsLastTuple}
@@ -65,6 +66,10 @@ module _ (context : Context) (literals : List Literal) (skip most : Option ℕ) 
         stands_at_one = subst P (sym stands) over.stands_at_one;
       }
 
+  -- the bound may be written otherwise
+  pub limited_to : (old new : CursorValue) (written least : Option ℕ) → new ≡ record old { most = written } → written ≡ least → new ≡ record old { most = least }
+  limited_to old new written least e same = let P : Option ℕ → Type 0 = λ z. new ≡ record old { most = z } in subst P same e
+
   pub no_more : (cursor : CursorValue) → IsCursor context literals skip most cursor → IsAtEnd cursor → IsLastTuple context literals skip most cursor.at
   no_more cursor over h = let P : CursorValue → Type 0 = λ z. IsAtEnd z in subst P over.same h
 
@@ -72,6 +77,15 @@ module _ (context : Context) (literals : List Literal) (skip most : Option ℕ) 
   none_at_all cursor written e same h =
       let P : CursorValue → Type 0 = λ z. IsAtEnd z in
       subst P (e ∙ ap (λ (z : List Literal). cursor_at context z skip most None) same) h
+
+  -- the tuple that a new cursor goes to, shown and copied
+  pub next_copied : (cursor new : CursorValue) (written : List Literal) (shown copied : List ℕ) → cursor ≡ cursor_at context written skip most None → written ≡ literals → IsAdvanced cursor new → new.at ≡ Some shown → copied ≡ shown → IsNextTuple context literals skip most None copied
+  next_copied cursor new written shown copied e same found shows copy =
+      let moves = advances cursor new (cursor_begun cursor written e same) found in
+      let P : Option (List ℕ) × List ℕ → Type 0 = λ z. IsNextTuple context literals skip most z.0 z.1 in
+      let at : cursor.at ≡ None = ap (λ (z : CursorValue). z.at) e in
+      let tuple : moves.tuple ≡ copied = same_Some moves.tuple shown (sym moves.stands ∙ shows) ∙ sym copy in
+      subst P (λ i. (at i, tuple i)) moves.is_next
 
   left_same : (cursor : CursorValue) → IsCursor context literals skip most cursor → cursor_left cursor ≡ tuples_left (length context) (width skip literals) cursor.at
   left_same cursor over = ap cursor_left over.same
