@@ -1,1 +1,4 @@
-
+pub mod Standing
+pub mod Drawing
+pub mod Plainness
+pub mod Words

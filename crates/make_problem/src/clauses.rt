@@ -81,7 +81,7 @@ fn literals(
 }
 
 /// So many clauses, numbered from 1, each of three words.
-pub(crate) fn clauses(
+pub(crate) fn drawn_clauses(
     alloc: Global,
     preds: u32,
     signature: &mut Signature,

@@ -5,11 +5,11 @@
 #![tactic(auto)]
 
 mod clauses;
-mod make;
+mod problem;
 mod symbols;
 mod word;
 
-pub use make::make;
+pub use problem::make;
 
 #[cfg(test)]
 mod tests;

@@ -6,7 +6,7 @@ ghost use Rattle.me_terms.specs.Validity.{IsValid};
 ghost use Rattle.tptp_cnf.specs.Plain.{IsPlain};
 ghost use Rattle.make_problem.specs.Made.{words_of, IsMade};
 
-use crate::clauses;
+use crate::clauses::drawn_clauses;
 use crate::symbols::add_constant;
 use me_terms::{Problem, Signature};
 use rand_core::SeedableRng;
@@ -37,7 +37,7 @@ pub fn make(alloc: Global, seed: u64, preds: u32, clauses: u32) -> Result<Proble
 {
     let words = words(alloc, seed, 3 * clauses as usize)?;
     let mut signature = Signature::new(alloc);
-    let clauses = clauses::clauses(alloc, preds, &mut signature, clauses, &words)?;
+    let clauses = drawn_clauses(alloc, preds, &mut signature, clauses, &words)?;
     add_constant(alloc, &mut signature)?;
     Ok(Problem {
         clauses,
