@@ -61,8 +61,8 @@ pub record IsFine (s : SymbolValue) : Type 0 where
   pub function : IsFunctionSymbol s
 
 constant_fine : (n : ℕ) → AllByRecursion IsFine (option_to_list (constant_by n))
-constant_fine 0 = (record { constant = refl; function = (((λ e. cc), refl), tt) }, tt)
-constant_fine 1 = (record { constant = refl; function = (((λ e. cc), refl), tt) }, tt)
+constant_fine zero = (record { constant = refl; function = (((λ e. cc), refl), tt) }, tt)
+constant_fine (suc zero) = (record { constant = refl; function = (((λ e. cc), refl), tt) }, tt)
 constant_fine (suc (suc n)) = tt
 
 constants_fine : (words : List ℕ) → AllByRecursion IsFine (constants_of words)
@@ -295,6 +295,9 @@ words_count : (count : ℕ) (g : Lcg) → length (first_words pcg32 count g) ≡
 unfolding first_words
 words_count zero g = refl
 words_count (suc n) g = omega (arith, words_count n (pcg32 g).1)
+
+pub words_length : (seed count : ℕ) → length (words_of seed count) ≡ count
+words_length seed count = words_count count (pcg32_of_seed (pcg32_seed 16 seed))
 
 fine_arity : (s : SymbolValue) → IsFine s → s.arity ≤ 64
 fine_arity s h = let zero_is : eqb s.arity 0 ≡ true = h.constant in grind (arith, nat_tests)

@@ -20,6 +20,6 @@ no_more_words items all n g none before =
     sym (append-nil items) ∙ ap (λ (m : ℕ). items ++ first_words pcg32 m g) (sym none) ∙ before
 
 pub chosen_other : (n : ℕ) → (n ≡ 0 → ⊥) → (n ≡ 1 → ⊥) → constant_by n ≡ None
-chosen_other 0 h k = absurd (h refl)
-chosen_other 1 h k = absurd (k refl)
+chosen_other zero h k = absurd (h refl)
+chosen_other (suc zero) h k = absurd (k refl)
 chosen_other (suc (suc n)) h k = refl

@@ -26,9 +26,9 @@ is_positive w = eqb (w / 65536 % 2) 0
 
 -- Of four choices, the first is the constant `a` and the second the constant `b`; the others are no constant.
 abbrev pub constant_by : ℕ → Option SymbolValue
-constant_by 0 = Some (symbol (word (codes "a")) 0)
-constant_by 1 = Some (symbol (word (codes "b")) 0)
-constant_by n = None
+constant_by zero = Some (symbol (word (codes "a")) 0)
+constant_by (suc zero) = Some (symbol (word (codes "b")) 0)
+constant_by (suc (suc n)) = None
 
 -- Bits 17 and 18 choose the argument.
 abbrev pub constant_of : ℕ → Option SymbolValue
