@@ -35,13 +35,13 @@ module _ (preds : ℕ) (s new last : SignatureValue) (rest : List ℕ) (known : 
   three_words is = words_on (take 3 rest) (drop 3 rest) (sym (take-append-drop 3 rest)) is
 
 drop_added : (a b : ℕ) (xs : List ℕ) → drop (a + b) xs ≡ drop b (drop a xs)
-drop_added zero b xs = ap (λ (n : ℕ). drop n xs) (zero-add {b})
-drop_added (suc a) b [] = ap (λ (n : ℕ). drop n []) (suc-add {a} {b}) ∙ sym (none b)
+drop_added zero b xs = ap (λ (n : ℕ). drop n xs) (zero-add b)
+drop_added (suc a) b [] = ap (λ (n : ℕ). drop n []) (suc-add a b) ∙ sym (none b)
   where
     none : (n : ℕ) → drop n [] ≡ []
     none zero = refl
     none (suc n) = refl
-drop_added (suc a) b (x ∷ xs) = ap (λ (n : ℕ). drop n (x ∷ xs)) (suc-add {a} {b}) ∙ drop_added a b xs
+drop_added (suc a) b (x ∷ xs) = ap (λ (n : ℕ). drop n (x ∷ xs)) (suc-add a b) ∙ drop_added a b xs
 
 -- the words of further clauses
 pub drop_three : (k : ℕ) (words : List ℕ) → drop (3 * (k + 1)) words ≡ drop 3 (drop (3 * k) words)
