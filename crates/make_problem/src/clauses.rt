@@ -7,8 +7,7 @@ ghost use Rattle.tptp_cnf.specs.Meaning.{with_symbols};
 ghost use Rattle.make_problem.specs.Drawn.{with_words};
 ghost use Rattle.make_problem.specs.Made as made;
 
-use crate::symbols;
-use crate::word;
+use crate::{symbols, word};
 use me_terms::{Atom, Clause, Clauses, Literal, Literals, Signature, Term, Terms};
 use std::alloc::{AllocError, Global};
 

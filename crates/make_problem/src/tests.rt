@@ -7,7 +7,10 @@ use std::test::Fail;
 #[test]
 fn the_words_are_those_of_the_generator(rt: HostRuntime) -> Result<(), Fail> {
     let words = words(rt.alloc(), 7, 4)?;
-    assert_eq!(rt; words.as_slice(), [2442223337, 414063806, 2743600285, 3524868804].as_slice());
+    assert_eq!(rt;
+        words.as_slice(),
+        [2442223337, 414063806, 2743600285, 3524868804].as_slice()
+    );
     Ok(())
 }
 

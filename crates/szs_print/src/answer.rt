@@ -13,11 +13,7 @@ use me_terms::{Answer, Bound, Problem, Text};
 use std::alloc::{AllocError, Global};
 
 /// Puts the text for a search that gave up at the bound at the end.
-pub(crate) fn push_gave_up(
-    out: &mut Vec<u8>,
-    name: &[u8],
-    bound: Bound,
-) -> Result<(), AllocError>
+pub(crate) fn push_gave_up(out: &mut Vec<u8>, name: &[u8], bound: Bound) -> Result<(), AllocError>
     ensures { OnOk result (out.new.items ≡ out.old.items ++ gave_up_text name.now bound) }
 {
     push_status(out, b"GaveUp", name)?;

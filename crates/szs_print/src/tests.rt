@@ -146,7 +146,8 @@ fn hidden_entries_are_left_out(rt: HostRuntime) -> Result<(), Fail> {
     signature.add_fun(symbol(alloc, b'a', 0)?)?;
     signature.add_pred(symbol(alloc, b'p', 1)?)?;
     let text = print_model(alloc, b"n", &signature, &context(alloc)?)?;
-    let expected = b"% SZS status Satisfiable for n\n% SZS output start Model for n\n% default false\ncnf(e2,plain,p(X0),universal).\ncnf(e3,plain,~p(X0),parametric).\n% SZS output end Model for n\n";
+    let expected =
+        b"% SZS status Satisfiable for n\n% SZS output start Model for n\n% default false\ncnf(e2,plain,p(X0),universal).\ncnf(e3,plain,~p(X0),parametric).\n% SZS output end Model for n\n";
     assert_eq!(rt; text.as_slice(), expected.as_slice());
     Ok(())
 }

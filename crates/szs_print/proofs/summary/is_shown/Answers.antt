@@ -1,15 +1,8 @@
 use Rattle.std.proofs.Common.{sym, ap, subst, ◌∙◌}
-use Rattle.std.proofs.lemmas.Bool.{false≢true}
 use Rattle.std.specs.Prelude.{IsTrue, ◌↔◌}
 use Rattle.szs_print.proofs.Hiding.{HasCover, after}
-use Rattle.szs_print.proofs.Shown.{any_is_not_shown, shown_by}
+use Rattle.szs_print.proofs.Shown.{shown_by}
 use Rattle.szs_print.proofs.summary.is_shown.Goals as goal
-
-pub returns-in_default : goal.returns-in_default
-returns-in_default c =
-    let e = c.index-entries-k.result in
-    let atom_is = sym (ap (λ v. v.atom) c.entry.view_is) ∙ c.in_default.is in
-    ((λ n. absurd (false≢true n)), λ s. absurd (any_is_not_shown c.args.entries.now c.args.k e c.requires c.index-entries-k.is atom_is s))
 
 pub returns : goal.returns
 returns c =
