@@ -1,0 +1,3 @@
+pub mod AcceptedWords
+pub mod Ranges
+pub mod Settings
