@@ -1,8 +1,11 @@
 -- The options of a call, as they are written: each with its name, and the form and range of its value.
-use Rattle.std.specs.Prelude.{◌≡◌, ◌≢◌, ℕ, ◌≤◌, ◌==◌, Bool, List, [], ◌∷◌, ◌++◌, length, codes, Option, option_map}
+use Rattle.std.specs.Prelude.{◌≡◌, ◌≢◌, ℕ, ◌≤◌, Bool, List, [], ◌∷◌, ◌++◌, length, map, codes, Option, Some, None, IfSome, option_map}
 use Rattle.std.specs.List.{All, AllPairs, find}
 use Rattle.std.specs.Str.{bytes_eq}
 use Rattle.std.specs.Str.Parse.{digits_value}
+use Rattle.std.specs.String.{string_bytes}
+use Rattle.std.specs.Global.{Global}
+use Rattle.std.specs.declared.string.String.{String}
 use Rattle.szs_print.specs.Printable.{IsName}
 
 -- A word, as its bytes.
@@ -79,11 +82,20 @@ IsInForm Workers value = IsNumberWithin 1 64 value
 IsInForm Share value = IsNumberWithin 0 16 value
 IsInForm Make value = IsNumberWithin 0 1000000000 value
 
--- The words are these settings, each of another option, with a value in its form and range.
-pub record AreSettings (words : List Word) (settings : List Setting) : Type 0 where
+-- The words are these settings, each of another option.
+pub record AreDistinct (words : List Word) (settings : List Setting) : Type 0 where
   pub read : ReadsAs words settings
   pub once : AreDifferent settings
+
+-- The words are these settings, each of another option, with a value in its form and range.
+pub record AreSettings (words : List Word) (settings : List Setting) : Type 0 where
+  pub distinct : AreDistinct words settings
   pub in_form : All (λ setting. IsInForm setting.option setting.value) settings
+
+-- The words after the first are the settings, whatever their values.
+abbrev pub Distinguishes : List (String Global) → List Setting → Type 0
+Distinguishes [] settings = ⊥
+Distinguishes (program ∷ words) settings = AreDistinct (map string_bytes words) settings
 
 -- The setting is of the option.
 abbrev pub is_of : OptionKind → Setting → Bool
@@ -92,3 +104,17 @@ is_of option setting = bytes_eq (long_name setting.option) (long_name option)
 -- The value that the option is set to, if it is set.
 abbrev pub value_of : OptionKind → List Setting → Option Word
 value_of option settings = option_map (λ setting. setting.value) (find (is_of option) settings)
+
+-- The number of a value in its range, or the default where none is given.
+abbrev pub IsNumberOr : ℕ → ℕ → ℕ → Option Word → ℕ → Type 0
+IsNumberOr low high default None number = number ≡ default
+IsNumberOr low high default (Some word) number = IsNumberWithin low high word × (number ≡ number_of word)
+
+-- A value is given, and it writes no number in the range.
+abbrev pub IsOutside : ℕ → ℕ → Option Word → Type 0
+IsOutside low high None = ⊥
+IsOutside low high (Some word) = ¬ IsNumberWithin low high word
+
+-- Each value that is given has the form and range of its option.
+abbrev pub AreInForm : (OptionKind → Option Word) → Type 0
+AreInForm values = (option : OptionKind) → IfSome (values option) (IsInForm option)

@@ -4,8 +4,12 @@
 //! they ask for, each in its range.
 #![tactic(auto)]
 
+mod command;
+mod error;
 mod options;
+mod values;
 mod words;
 
+pub use error::WordsError;
 pub use options::Options;
-pub use words::{WordsError, read_words};
+pub use words::read_words;
