@@ -106,7 +106,7 @@ read_name words waits done last o different e =
     let passed = past_turn (idle_after done last) (written_name o) words e in
     let settled = settled_back done last different (or_none _ _ (sym (name_fault o (rows_for done) (pending_for last)) ∙ passed.0)).0 in
     let is : walked rules [] (idle_after done last) (written_name o) ≡ awaits (rows_for (noted done last)) o =
-        name_walked o (rows_for done) (pending_for last) ∙ ap (λ (rows : List Row). awaits rows o) settled.1 in
+    name_walked o (rows_for done) (pending_for last) ∙ ap (λ (rows : List Row). awaits rows o) settled.1 in
     let waited = waits (noted done last) o settled.0 (ap (λ (w : Walk). rest_fault w words) (sym is) ∙ passed.1) in
     record {
       settings = set_to o waited.value ∷ waited.read.settings;
@@ -126,9 +126,9 @@ read_both words later done last o v different e =
     let settled = settled_back done last different reacted.0 in
     let new = used_newly o v (rows_for (noted done last)) (ap (λ (rows : List Row). use_fault false (rule o) (v ∷ []) rows) (sym settled.1) ∙ reacted.1) in
     let is : walked rules [] (idle_after done last) (written_name o ++ 61 ∷ v) ≡ idle_after (noted done last ++ set_to o v ∷ []) None =
-        both_walked o v (rows_for done) (pending_for last)
-        ∙ ap (λ (rows : List Row). at rows None idle) (ap (λ (rows : List Row). used (rule o) (v ∷ []) rows) settled.1 ∙ used_first o v (rows_for (noted done last)) new
-        ∙ sym (map-append row (noted done last) (set_to o v ∷ []))) in
+    both_walked o v (rows_for done) (pending_for last)
+    ∙ ap (λ (rows : List Row). at rows None idle) (ap (λ (rows : List Row). used (rule o) (v ∷ []) rows) settled.1 ∙ used_first o v (rows_for (noted done last)) new
+    ∙ sym (map-append row (noted done last) (set_to o v ∷ []))) in
     let others = later (noted done last ++ set_to o v ∷ []) None (one_more (noted done last) (set_to o v) settled.0 new) (ap (λ (w : Walk). rest_fault w words) (sym is) ∙ passed.1) in
     record {
       settings = set_to o v ∷ others.settings;

@@ -14,6 +14,8 @@ use Rattle.clap.specs.Matches.{first_value, found_of}
 use Rattle.clap.specs.Simple.{App, HasMatchesOf, built, entered, is_simple, matches_of}
 use Rattle.clap.specs.Walk.{Row, Text, first_of, nothing_held, rows_of, walk}
 use Rattle.clap.specs.declared.parser.matches.ArgMatches.{ArgMatches}
+use Rattle.darwin_options.specs.declared.error.WordsError.{WordsError}
+use Rattle.darwin_options.specs.declared.error.WordsError.TheVariants.{Memory, Usage}
 use Rattle.clap.proofs.WalkLemmas.{first_value-rows, list_any-map}
 use Rattle.darwin_options.specs.Settings.{OptionKind, Name, Depth, Weight, Literals, ListWeight, Workers, Share, Make, Word, Setting, long_name, written_name, is_of, value_of, ReadsAs, nothing, two_words, one_word, AreDistinct, Distinguishes}
 use Rattle.darwin_options.specs.OptionsCommand.{all_options, options_app, is_bare, is_readable, HoldsValuesOf, IsFoundIn, AreNoSettings}
@@ -25,7 +27,7 @@ use Rattle.darwin_options.proofs.Found.{read}
 for_stop : (words : List Word) (stop : Option (Text × List Text))
     → level_fault top [] nothing_held words (is_some (entered (built options_app) stop)) (entered_fault (built options_app) stop)
     ≡ or_else (walk_fault top [] (idle_after [] None) words)
-      (or_else (settle_fault rules false (walk rules [] nothing_held words).held) (or_else (defaults_fault (last_rows (idle_after [] None) words) rules) []))
+    (or_else (settle_fault rules false (walk rules [] nothing_held words).held) (or_else (defaults_fault (last_rows (idle_after [] None) words) rules) []))
 for_stop words None = refl
 for_stop words (Some p) = refl
 
@@ -37,7 +39,7 @@ fault-is : (program : Word) (words : List Word) → fault_of options_app (progra
 fault-is program words =
     for_stop words (walk rules [] nothing_held words).stopped
     ∙ ap (λ (ks : Kinds). or_else (walk_fault top [] (idle_after [] None) words) (or_else (settle_fault rules false (walk rules [] nothing_held words).held) (or_else ks [])))
-      (no_defaults (last_rows (idle_after [] None) words) all_options)
+    (no_defaults (last_rows (idle_after [] None) words) all_options)
     ∙ ap (λ (ks : Kinds). or_else (walk_fault top [] (idle_after [] None) words) ks) (or_right (settle_fault rules false (walk rules [] nothing_held words).held))
 
 rows-are : (program : Word) (words : List Word) → matches_of options_app (program ∷ words) ≡ last_rows (idle_after [] None) words
@@ -49,7 +51,7 @@ first-value o (s ∷ settings) = go (first-value o settings) (is_of o s)
   where
     go : first_of (long_name o) (rows_for settings) ≡ value_of o settings → (b : Bool)
         → Rattle.std.specs.Prelude.option_and_then (λ (r : Row). Rattle.std.specs.Prelude.slice_get r.values 0)
-          (cond b (Some (Rattle.darwin_options.proofs.Turns.row s)) (find (λ r. bytes_eq r.id (long_name o)) (rows_for settings)))
+        (cond b (Some (Rattle.darwin_options.proofs.Turns.row s)) (find (λ r. bytes_eq r.id (long_name o)) (rows_for settings)))
         ≡ option_map (λ (t : Setting). t.value) (cond b (Some s) (find (is_of o) settings))
     go others true = refl
     go others false = others
@@ -140,3 +142,11 @@ refused_in app is (program ∷ words) e fails other settings given =
       | inl memory ↦ other memory
       | inr among ↦ among
     ]
+
+is_memory : WordsError → Bool
+is_memory Memory = true
+is_memory Usage = false
+
+pub memory_is_no_usage : Memory ≡ Usage → ⊥
+unfolding is_memory
+memory_is_no_usage e = true≢false (ap is_memory e)

@@ -81,23 +81,23 @@ taken (two_words o v words settings plain read) done last different =
     let now = settled_well done last (set_to o v ∷ settings) different in
     let on = subst AreDifferent (sym (append_assoc (noted done last) (set_to o v ∷ []) settings)) different in
     let later = subst (λ (xs : List Setting). Takes (idle_after (noted done last) (Some (set_to o v))) words (rows_for xs)) (append_assoc (noted done last) (set_to o v ∷ []) settings)
-        (taken read (noted done last) (Some (set_to o v)) on) in
+    (taken read (noted done last) (Some (set_to o v)) on) in
     takes_on _ (awaits (rows_for (noted done last)) o) (written_name o) (v ∷ words) _
-        (name_fault o (rows_for done) (pending_for last) ∙ or_nothing _ now.0)
-        (name_walked o (rows_for done) (pending_for last) ∙ ap (λ (rows : List Row). awaits rows o) now.1)
-        (takes_on _ (idle_after (noted done last) (Some (set_to o v))) v words _
-        (value_fault o v (rows_for (noted done last)) (hyphen_test v plain)) (value_walked o v (rows_for (noted done last)) (hyphen_test v plain)) later)
+    (name_fault o (rows_for done) (pending_for last) ∙ or_nothing _ now.0)
+    (name_walked o (rows_for done) (pending_for last) ∙ ap (λ (rows : List Row). awaits rows o) now.1)
+    (takes_on _ (idle_after (noted done last) (Some (set_to o v))) v words _
+    (value_fault o v (rows_for (noted done last)) (hyphen_test v plain)) (value_walked o v (rows_for (noted done last)) (hyphen_test v plain)) later)
 taken (one_word o v words settings read) done last different =
     let now = settled_well done last (set_to o v ∷ settings) different in
     let here = used_well (noted done last) (set_to o v) settings different in
     let on = subst AreDifferent (sym (append_assoc (noted done last) (set_to o v ∷ []) settings)) different in
     let later = subst (λ (xs : List Setting). Takes (idle_after (noted done last ++ set_to o v ∷ []) None) words (rows_for xs)) (append_assoc (noted done last) (set_to o v ∷ []) settings)
-        (taken read (noted done last ++ set_to o v ∷ []) None on) in
+    (taken read (noted done last ++ set_to o v ∷ []) None on) in
     takes_on _ (idle_after (noted done last ++ set_to o v ∷ []) None) (written_name o ++ 61 ∷ v) words _
-        (both_fault o v (rows_for done) (pending_for last) ∙ or_nothing _ (react_well done last (set_to o v) settings different))
-        (both_walked o v (rows_for done) (pending_for last)
-        ∙ ap (λ (rows : List Row). at rows None idle) (ap (λ (rows : List Row). used (rule o) (v ∷ []) rows) now.1 ∙ here.1))
-        later
+    (both_fault o v (rows_for done) (pending_for last) ∙ or_nothing _ (react_well done last (set_to o v) settings different))
+    (both_walked o v (rows_for done) (pending_for last)
+    ∙ ap (λ (rows : List Row). at rows None idle) (ap (λ (rows : List Row). used (rule o) (v ∷ []) rows) now.1 ∙ here.1))
+    later
 
 -- ---- what kind of word it is
 
@@ -122,6 +122,7 @@ cut (x ∷ xs) e = go (cut xs) (eqb x 61) ((Decides-eqb x 61).0) e
   where
     n : ℕ
     n = position_or_len is_equals xs
+
     go : (list_any is_equals xs ≡ true → xs ≡ take n xs ++ 61 ∷ drop (n + 1) xs) → (b : Bool) → (b ≡ true → x ≡ 61) → (b || list_any is_equals xs) ≡ true
         → x ∷ xs ≡ take (cond (not b) (1 + n) 0) (x ∷ xs) ++ 61 ∷ drop (cond (not b) (1 + n) 0 + 1) (x ∷ xs)
     go later true is h = ap (λ (y : ℕ). y ∷ xs) (is refl)
@@ -133,6 +134,7 @@ uncut (x ∷ xs) e = go (uncut xs) (eqb x 61) e
   where
     n : ℕ
     n = position_or_len is_equals xs
+
     go : (list_any is_equals xs ≡ false → take n xs ≡ xs) → (b : Bool) → (b || list_any is_equals xs) ≡ false → take (cond (not b) (1 + n) 0) (x ∷ xs) ≡ x ∷ xs
     go later true h = absurd (true≢false h)
     go later false h = take_more n x xs ∙ ap (λ (ys : Word). x ∷ ys) (later h)
@@ -158,6 +160,7 @@ seen_long z zs = elim (known name all_options) [
   where
     name : Text
     name = before_first is_equals (z ∷ zs)
+
     go : (o : OptionKind) → long_name o ≡ name → (b : Bool) → list_any is_equals (z ∷ zs) ≡ b → Seen (45 ∷ 45 ∷ z ∷ zs)
     go o is true e = both o (after_first is_equals (z ∷ zs)) (ap (λ (xs : Word). 45 ∷ 45 ∷ xs) (cut (z ∷ zs) e ∙ ap (λ (xs : Word). xs ++ 61 ∷ after_first is_equals (z ∷ zs)) (sym is)))
     go o is false e = named o (ap (λ (xs : Word). 45 ∷ 45 ∷ xs) (sym (is ∙ uncut (z ∷ zs) e)))
@@ -174,6 +177,7 @@ seen (x ∷ y ∷ []) e = plain (go (eqb x 45) e)
     inner : (c : Bool) → not (is_some (option_and_then long_of_rest (cond c (Some []) None))) ≡ false → true ≡ false
     inner true h = h
     inner false h = h
+
     go : (b : Bool) → (b && not (is_some (option_and_then long_of_rest (option_and_then (strip_byte 45) (cond b (Some (y ∷ [])) None))))) ≡ false → b ≡ false
     go true h = inner (eqb y 45) h
     go false h = refl

@@ -82,7 +82,7 @@ fn is_readable(words: &[String]) -> bool
 /// The matches of words of which none is bare.
 #[tactic(none)]
 fn parsed<'a>(alloc: Global, words: &'a [String]) -> Result<ArgMatches<'a>, WordsError>
-    requires { is_readable words.entry.now ≡ true }
+    requires { is_readable words.now ≡ true }
     ensures found { IfOk result (IsFoundIn words.entry.now) }
     ensures same { IfOk result (λ m. (settings : List Setting) → Distinguishes words.entry.now settings → HoldsValuesOf settings m) }
     ensures usage { IfErr result (λ e. e ≡ WordsError.Usage → AreNoSettings words.entry.now) }
@@ -97,7 +97,11 @@ fn parsed<'a>(alloc: Global, words: &'a [String]) -> Result<ArgMatches<'a>, Word
 }
 
 /// The matches of the words, of which the first is the program's name.
-pub(crate) fn matches_in<'a>(alloc: Global, words: &'a [String]) -> Result<ArgMatches<'a>, WordsError>
+#[tactic(auto, using(crate::proofs::Parsed::unreadable))]
+pub(crate) fn matches_in<'a>(
+    alloc: Global,
+    words: &'a [String],
+) -> Result<ArgMatches<'a>, WordsError>
     ensures found { IfOk result (IsFoundIn words.entry.now) }
     ensures same { IfOk result (λ m. (settings : List Setting) → Distinguishes words.entry.now settings → HoldsValuesOf settings m) }
     ensures usage { IfErr result (λ e. e ≡ WordsError.Usage → AreNoSettings words.entry.now) }

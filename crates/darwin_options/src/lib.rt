@@ -13,3 +13,6 @@ mod words;
 pub use error::WordsError;
 pub use options::Options;
 pub use words::read_words;
+
+#[cfg(test)]
+mod tests;

@@ -98,6 +98,7 @@ fn bounds_in(matches: &ArgMatches) -> Result<Bounds, WordsError>
 /// The seed that is given for a made problem.
 fn seed_in(matches: &ArgMatches) -> Result<Option<u64>, WordsError>
     ensures ok { IfOk result (IsSeed (first_value (found_of matches.now) (codes "make"))) }
+    ensures in_range { IfOk result (λ seed. IfSome seed (λ number. number ≤ 1000000000)) }
     ensures usage { OnErr result (IsOutside 0 1000000000 (first_value (found_of matches.now) (codes "make"))) }
 {
     match matches.get_str("make") {
@@ -120,25 +121,33 @@ fn text_from(alloc: Global, bytes: &[u8]) -> Result<Text, AllocError>
     Ok(text)
 }
 
+/// The bytes as a name of their own.
+fn name_from(alloc: Global, bytes: &[u8]) -> Result<Text, WordsError>
+    ensures ok { IfOk result (λ name. name.items ≡ bytes.now) }
+    ensures memory { IfErr result (λ e. e ≡ WordsError.Memory) }
+{
+    match text_from(alloc, bytes) {
+        Ok(name) => Ok(name),
+        Err(_) => Err(WordsError::Memory),
+    }
+}
+
 /// The name that is given, or the default name.
 fn name_in(alloc: Global, matches: &ArgMatches) -> Result<Text, WordsError>
     ensures ok { IfOk result (λ name. IsNameOr (first_value (found_of matches.now) (codes "name")) name.items) }
+    ensures printable { IfOk result (λ name. IsName name.items) }
     ensures usage { IfErr result (λ e. e ≡ WordsError.Usage → IsNoName (first_value (found_of matches.now) (codes "name"))) }
 {
-    let name = matches.get_str("name").unwrap_or("stdin");
-    if !is_name(name.as_bytes()) {
-        return Err(WordsError::Usage);
-    }
-    match text_from(alloc, name.as_bytes()) {
-        Ok(text) => Ok(text),
-        Err(_) => Err(WordsError::Memory),
+    match matches.get_str("name") {
+        Some(name) if is_name(name.as_bytes()) => name_from(alloc, name.as_bytes()),
+        Some(_) => Err(WordsError::Usage),
+        None => name_from(alloc, b"stdin".as_slice()),
     }
 }
 
 /// The options that the matches give.
 pub(crate) fn options_in(alloc: Global, matches: &ArgMatches) -> Result<Options, WordsError>
     ensures asked { IfOk result (AreOptionsOf (value_found matches.now)) }
-    ensures in_form { IfOk result (λ _. AreInForm (value_found matches.now)) }
     ensures in_range { IfOk result IsInRange }
     ensures usage { IfErr result (λ e. e ≡ WordsError.Usage → ¬ AreInForm (value_found matches.now)) }
 {

@@ -1,9 +1,8 @@
-use Rattle.std.proofs.Common.{rules}
-use Rattle.darwin_options.proofs.Parsed.{found_in, same_in, refused_in}
+use Rattle.darwin_options.proofs.Parsed.{found_in, same_in, refused_in, memory_is_no_usage}
 use Rattle.darwin_options.proofs.command.parsed.Goals as goal
 
-pub returns-in_default-command-clause-usage : goal.returns-in_default-command-clause-usage
-returns-in_default-command-clause-usage c = search rules
+pub returns-in_default-clause-usage : goal.returns-in_default-clause-usage
+returns-in_default-clause-usage c usage = absurd (memory_is_no_usage usage)
 
 pub returns-in-Ok-try_get_matches_from-clause-found : goal.returns-in-Ok-try_get_matches_from-clause-found
 returns-in-Ok-try_get_matches_from-clause-found c =
