@@ -2,7 +2,7 @@
 use Rattle.std.proofs.Common.{◌≡◌, ◌⊎◌, inl, inr, ℕ, ◌+◌, ◌<◌, ◌≤◌, List, ◌++◌, length, Option, Some, None, Result, Ok, Err, refl, sym, subst, ap, ◌∙◌, arith}
 use Rattle.std.proofs.lemmas.List.{append-nil}
 use Rattle.std.proofs.lemmas.Option.{same_Some}
-use Rattle.std.specs.Prelude.{IfOk, IfErr, IfSome, IsSome}
+use Rattle.std.specs.Prelude.{IfOk, IfErr, IfSome}
 use Rattle.std.specs.Io.KnownBytes.{Consumes, IsAtEnd}
 use Rattle.me_io.specs.Source.{Rose, GaveFront}
 use Rattle.me_terms.specs.Values.{ProblemValue}
@@ -78,11 +78,6 @@ all_given None new bytes given given' whole end front = tt
 all_given (Some xs) None bytes given given' whole end front = front.gone
 all_given (Some xs) (Some ys) bytes given given' whole end front = sym whole ∙ sym (append-nil bytes) ∙ ap (λ (zs : List ℕ). bytes ++ zs) (sym end)
 
--- a seed is there or not
-not_unmade : (make : Option ℕ) → IsSome make → make ≡ None → ⊥
-not_unmade None made unmade = absurd made
-not_unmade (Some seed) made unmade = cc
-
 module _ {S : Type 0} (left : S → Option (List ℕ)) (given : S → ℕ) (ended : S → Type 0) (faults : S → ℕ) (options : Options) (old new : S) where
   -- a source that tells its bytes gave up no others
   same_bytes : (bytes other : List ℕ) → left old ≡ Some bytes → GaveAll left given ended faults options old new other → other ≡ bytes
@@ -143,26 +138,6 @@ module _ {S : Type 0} (left : S → Option (List ℕ)) (given : S → ℕ) (ende
       let asked = asked_of_file answered.problem unmade answered.asked in
       let P : List ℕ → Type 0 = λ xs. IsFile xs answered.problem in
       not_refused bytes answered.problem due (subst P (same_bytes bytes asked.0 told asked.1) asked.2) is
-
-  -- with a seed there is no refusal but want of memory
-  pub made_status : (r : Refusal) → IsSome options.make → IsCause left given ended faults options old new r → status_of r ≡ 7
-  made_status Usage made cause = absurd cause
-  made_status (Syntax at) made cause = absurd (not_unmade options.make made cause.0)
-  made_status (Inappropriate what at) made cause = absurd (not_unmade options.make made cause.0)
-  made_status (Limit which at) made cause = absurd (not_unmade options.make made cause.0)
-  made_status Length made cause = absurd (not_unmade options.make made cause.0)
-  made_status Read made cause = absurd (not_unmade options.make made cause.0)
-  made_status Memory made cause = refl
-
-  -- options are not refused as words are
-  pub no_usage : (r : Refusal) → IsCause left given ended faults options old new r → status_of r ≡ 1 → ⊥
-  no_usage Usage cause e = cause
-  no_usage (Syntax at) cause e = omega arith
-  no_usage (Inappropriate what at) cause e = omega arith
-  no_usage (Limit which at) cause e = omega arith
-  no_usage Length cause e = omega arith
-  no_usage Read cause e = omega arith
-  no_usage Memory cause e = omega arith
 
   -- a source that was read to its end gave up all its bytes
   pub read_gave_all : (bytes : List ℕ) → IfSome (left old) (λ xs. bytes ≡ xs) → IsAtEnd (left new) → GaveFront (left old) (left new) (given old) (given new) → given new ≡ given old + length bytes → ended new → length bytes ≤ 67108864 → GaveAll left given ended faults options old new bytes

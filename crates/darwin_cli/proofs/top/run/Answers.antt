@@ -1,8 +1,6 @@
-use Rattle.std.proofs.Common.{◌≡◌, ◌⊎◌, inl, inr, ℕ, ◌≤◌, ◌<◌, refl, ap, subst, sym, arith}
-use Rattle.darwin_options.specs.AcceptedWords.{AreAccepted}
-use Rattle.darwin_cli.proofs.Told.{told, own_status, told_in_range, words_cause, words_status, accepted_status}
+use Rattle.std.proofs.Common.{inl, inr, refl, subst, sym}
+use Rattle.darwin_cli.proofs.Told.{own_status, words_cause}
 use Rattle.darwin_cli.specs.Calls.{IsWordsCause}
-use Rattle.darwin_cli.specs.Outcome.{status_of}
 use Rattle.darwin_cli.proofs.top.run.Goals as goal
 
 pub returns-in-Ok-clause-answered : goal.returns-in-Ok-clause-answered
@@ -49,42 +47,6 @@ pub returns-in-Ok-clause-made_complete : goal.returns-in-Ok-clause-made_complete
 returns-in-Ok-clause-made_complete g c =
     λ ask still. c.run_alone.ensures.made_complete (ask.seeded c.in-Ok.options c.in-Ok.ensures.asked) still
 
-pub returns-in-Err-clause-status : goal.returns-in-Err-clause-status
-returns-in-Err-clause-status g c =
-    (told_in_range c.refusal_of.result c.tell.result c.tell.ensures.status).1
-
-pub returns-in-Err-clause-answered : goal.returns-in-Err-clause-answered
-returns-in-Err-clause-answered g c =
-    λ zero. absurd (omega (arith, (told_in_range c.refusal_of.result c.tell.result c.tell.ensures.status).0, zero))
-
 pub returns-in-Err-clause-refused : goal.returns-in-Err-clause-refused
 returns-in-Err-clause-refused g c =
     λ some other. let cause : IsWordsCause c.args.words.now.items c.refusal_of.result = subst (IsWordsCause c.args.words.now.items) (sym c.refusal_of.ensures) (words_cause c.args.words.now.items c.in-Err.error c.in-Err.ensures.usage) in inl (c.refusal_of.result, own_status c.refusal_of.result c.tell.result c.tell.ensures.status other, (cause, refl), c.tell.ensures.whole other)
-
-pub returns-in-Err-clause-front : goal.returns-in-Err-clause-front
-returns-in-Err-clause-front g c =
-    λ six. let cause : IsWordsCause c.args.words.now.items c.refusal_of.result = subst (IsWordsCause c.args.words.now.items) (sym c.refusal_of.ensures) (words_cause c.args.words.now.items c.in-Err.error c.in-Err.ensures.usage) in let front = c.tell.ensures.front six in (_, front.0, inl (c.refusal_of.result, (cause, refl), refl), front.1)
-
-pub returns-in-Err-clause-usage : goal.returns-in-Err-clause-usage
-returns-in-Err-clause-usage g c =
-    λ refused. let cause : IsWordsCause c.args.words.now.items c.refusal_of.result = subst (IsWordsCause c.args.words.now.items) (sym c.refusal_of.ensures) (words_cause c.args.words.now.items c.in-Err.error c.in-Err.ensures.usage) in told (λ (n : ℕ). (n ≡ 1) ⊎ (6 ≤ n)) c.refusal_of.result c.tell.result c.tell.ensures.status (λ six. inr (omega arith)) (elim words_status c.args.words.now.items c.refusal_of.result cause [ inl e ↦ inl e | inr e ↦ inr (omega (arith, e)) ])
-
-pub returns-in-Err-clause-refused_file : goal.returns-in-Err-clause-refused_file
-returns-in-Err-clause-refused_file g c =
-    λ ask bytes due told_bytes few is. let cause : IsWordsCause c.args.words.now.items c.refusal_of.result = subst (IsWordsCause c.args.words.now.items) (sym c.refusal_of.ensures) (words_cause c.args.words.now.items c.in-Err.error c.in-Err.ensures.usage) in let memory = accepted_status c.args.words.now.items c.refusal_of.result ask.accepted cause in told (λ (n : ℕ). (n ≡ status_of due) ⊎ (5 ≤ n)) c.refusal_of.result c.tell.result c.tell.ensures.status (λ six. inr (omega arith)) (inr (omega (arith, memory)))
-
-pub returns-in-Err-clause-file : goal.returns-in-Err-clause-file
-returns-in-Err-clause-file g c =
-    λ ask bytes problem told_bytes few means. let cause : IsWordsCause c.args.words.now.items c.refusal_of.result = subst (IsWordsCause c.args.words.now.items) (sym c.refusal_of.ensures) (words_cause c.args.words.now.items c.in-Err.error c.in-Err.ensures.usage) in let memory = accepted_status c.args.words.now.items c.refusal_of.result ask.accepted cause in told (λ (n : ℕ). (n ≡ 0) ⊎ (5 ≤ n)) c.refusal_of.result c.tell.result c.tell.ensures.status (λ six. inr (omega arith)) (inr (omega (arith, memory)))
-
-pub returns-in-Err-clause-made : goal.returns-in-Err-clause-made
-returns-in-Err-clause-made g c =
-    λ ask. let cause : IsWordsCause c.args.words.now.items c.refusal_of.result = subst (IsWordsCause c.args.words.now.items) (sym c.refusal_of.ensures) (words_cause c.args.words.now.items c.in-Err.error c.in-Err.ensures.usage) in let memory = accepted_status c.args.words.now.items c.refusal_of.result ask.accepted cause in told (λ (n : ℕ). (n ≡ 0) ⊎ (6 ≤ n)) c.refusal_of.result c.tell.result c.tell.ensures.status (λ six. inr (omega arith)) (inr (omega (arith, memory)))
-
-pub returns-in-Err-clause-complete : goal.returns-in-Err-clause-complete
-returns-in-Err-clause-complete g c =
-    λ ask bytes problem told_bytes few means quiet still. let cause : IsWordsCause c.args.words.now.items c.refusal_of.result = subst (IsWordsCause c.args.words.now.items) (sym c.refusal_of.ensures) (words_cause c.args.words.now.items c.in-Err.error c.in-Err.ensures.usage) in let memory = accepted_status c.args.words.now.items c.refusal_of.result ask.accepted cause in told (λ (n : ℕ). (n ≡ 0) ⊎ (n ≡ 7)) c.refusal_of.result c.tell.result c.tell.ensures.status (λ six. absurd (still (c.tell.ensures.sink_fault six))) (inr memory)
-
-pub returns-in-Err-clause-made_complete : goal.returns-in-Err-clause-made_complete
-returns-in-Err-clause-made_complete g c =
-    λ ask still. let cause : IsWordsCause c.args.words.now.items c.refusal_of.result = subst (IsWordsCause c.args.words.now.items) (sym c.refusal_of.ensures) (words_cause c.args.words.now.items c.in-Err.error c.in-Err.ensures.usage) in let memory = accepted_status c.args.words.now.items c.refusal_of.result ask.accepted cause in told (λ (n : ℕ). (n ≡ 0) ⊎ (n ≡ 7)) c.refusal_of.result c.tell.result c.tell.ensures.status (λ six. absurd (still (c.tell.ensures.sink_fault six))) (inr memory)
