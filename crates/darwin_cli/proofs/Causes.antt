@@ -11,12 +11,9 @@ use Rattle.tptp_grammar.specs.declared.refusal.Refusal.TheVariants as file
 use Rattle.tptp_cnf.specs.Files.{IsFile}
 use Rattle.tptp_cnf.specs.Causes.{RefusedAt}
 use Rattle.tptp_cnf.proofs.Causal.{one_cause, refused_is_no_file}
-use Rattle.me_terms.specs.AnswerViews.{answer_value}
-use Rattle.me_terms.specs.declared.answer.Answer.{Answer}
-use Rattle.szs_print.specs.AnswerText.{IsAnswerText}
 use Rattle.szs_print.specs.declared.refusal.Refusal.{Refusal}
 use Rattle.szs_print.specs.declared.refusal.Refusal.TheVariants.{Usage, Syntax, Inappropriate, Limit, Length, Read, Memory}
-use Rattle.darwin_cli.specs.Outcome.{IsSure, IsFileCause, GaveAll, GaveTooMany, IsAskedFor, IsTextFor, IsFileRefused, IsCause, IsAnswered, status_of}
+use Rattle.darwin_cli.specs.Outcome.{IsFileCause, GaveAll, GaveTooMany, IsAskedFor, IsTextFor, IsFileRefused, IsCause, IsAnswered, status_of}
 use Rattle.darwin_cli.specs.Replies.{IsAnswerTo, IsSummaryOf}
 use Rattle.darwin_options.specs.declared.options.Options.{Options}
 

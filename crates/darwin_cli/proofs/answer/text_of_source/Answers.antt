@@ -22,5 +22,5 @@ returns-in-Ok-clause-answered g c =
     let P : Vec ℕ Global → Type 0 = λ text. IsAnswerTo options c.deref.result.now text.items in
     let Q : Vec ℕ Global → Type 0 = λ text. IsAnswered g.S.Source.left g.S.Source.given g.S.Source.ended g.S.Source.faults options c.args.source.now c.read_all.new.source text.items in
     let answered_by = λ (text : Vec ℕ Global) (is : IsAnswerTo options c.deref.result.now text.items).
-        answered_of_solved g.S.Source.left g.S.Source.given g.S.Source.ended g.S.Source.faults options c.args.source.now c.read_all.new.source c.in-Ok.bytes.items text.items c.requires.unmade all (subst (λ (bytes : List ℕ). IsAnswerTo options bytes text.items) c.deref.ensures.value is) in
+    answered_of_solved g.S.Source.left g.S.Source.given g.S.Source.ended g.S.Source.faults options c.args.source.now c.read_all.new.source c.in-Ok.bytes.items text.items c.requires.unmade all (subst (λ (bytes : List ℕ). IsAnswerTo options bytes text.items) c.deref.ensures.value is) in
     if_ok c.text_of_file.result P Q answered_by c.text_of_file.ensures.answered

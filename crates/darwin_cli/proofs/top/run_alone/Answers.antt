@@ -1,4 +1,4 @@
-use Rattle.std.proofs.Common.{◌≡◌, ◌⊎◌, inl, inr, ℕ, ◌≤◌, List, subst, arith}
+use Rattle.std.proofs.Common.{◌≡◌, ◌⊎◌, inr, ℕ, ◌≤◌, List, subst, arith}
 use Rattle.std.specs.Io.KnownBytes.{Appends}
 use Rattle.szs_print.specs.RefusalText.{refusal_text}
 use Rattle.darwin_cli.proofs.Causes.{refused_status, file_status, complete_status, answered_is_not_refused}
