@@ -1,6 +1,6 @@
 -- One more word, and three more.
-use Rattle.std.proofs.Common.{◌≡◌, ℕ, zero, suc, ◌+◌, ◌*◌, zero-add, suc-add, arith, List, [], ◌∷◌, ◌++◌, take, drop, refl, sym, ap, ◌∙◌, append_assoc}
-use Rattle.std.proofs.lemmas.List.{take-append-drop}
+use Rattle.std.proofs.Common.{◌≡◌, ℕ, suc, ◌+◌, ◌*◌, arith, List, [], ◌∷◌, ◌++◌, take, drop, sym, ap, ◌∙◌, append_assoc}
+use Rattle.std.proofs.lemmas.List.{drop-drop, take-append-drop}
 use Rattle.me_terms.specs.Values.{SignatureValue, ClauseValue}
 use Rattle.me_terms.specs.declared.atom.Literal.{Literal}
 use Rattle.make_problem.specs.Made.{literal_of, literals_of, label_of, clauses_of}
@@ -34,15 +34,6 @@ module _ (preds : ℕ) (s new last : SignatureValue) (rest : List ℕ) (known : 
   pub three_words : new ≡ with_words preds s (take 3 rest) → with_words preds new (drop 3 rest) ≡ last
   three_words is = words_on (take 3 rest) (drop 3 rest) (sym (take-append-drop 3 rest)) is
 
-drop_added : (a b : ℕ) (xs : List ℕ) → drop (a + b) xs ≡ drop b (drop a xs)
-drop_added zero b xs = ap (λ (n : ℕ). drop n xs) (zero-add b)
-drop_added (suc a) b [] = ap (λ (n : ℕ). drop n []) (suc-add a b) ∙ sym (none b)
-  where
-    none : (n : ℕ) → drop n [] ≡ []
-    none zero = refl
-    none (suc n) = refl
-drop_added (suc a) b (x ∷ xs) = ap (λ (n : ℕ). drop n (x ∷ xs)) (suc-add a b) ∙ drop_added a b xs
-
 -- the words of further clauses
 pub drop_three : (k : ℕ) (words : List ℕ) → drop (3 * (k + 1)) words ≡ drop 3 (drop (3 * k) words)
-drop_three k words = let sum : 3 * (k + 1) ≡ 3 * k + 3 = omega arith in ap (λ (n : ℕ). drop n words) sum ∙ drop_added (3 * k) 3 words
+drop_three k words = let sum : 3 * (k + 1) ≡ 3 * k + 3 = omega arith in ap (λ (n : ℕ). drop n words) sum ∙ sym (drop-drop 3 (3 * k) words)

@@ -1,5 +1,5 @@
 -- A made problem is plain.
-use Rattle.std.proofs.Common.{◌≡◌, ◌≢◌, ℕ, zero, suc, ◌+◌, ◌*◌, ◌%◌, ◌^◌, ◌<◌, ◌≤◌, Bool, true, false, cond, ◌||◌, ◌&&◌, eqb, List, [], ◌∷◌, ◌++◌, length, map, take, drop, Option, Some, None, refl, sym, ap, subst, ◌∙◌, one-add, arith, length-append, length-drop}
+use Rattle.std.proofs.Common.{◌≡◌, ℕ, zero, suc, ◌+◌, ◌*◌, ◌%◌, ◌^◌, ◌<◌, ◌≤◌, Bool, true, false, cond, ◌||◌, ◌&&◌, eqb, List, [], ◌∷◌, ◌++◌, length, take, drop, Option, Some, None, refl, sym, ap, subst, ◌∙◌, arith, length-append, length-drop}
 use Rattle.std.proofs.Math.Nat.{mod-lt}
 use Rattle.std.proofs.lemmas.Bool.Decides.{nat_tests}
 use Rattle.std.proofs.lemmas.Fmt.{decimal_is_IsNumeral}
@@ -7,19 +7,18 @@ use Rattle.std.proofs.lemmas.Grind.{flat_map-append}
 use Rattle.std.proofs.lemmas.List.{take-append-drop}
 use Rattle.std.proofs.lemmas.List.Elements.{All-nil, All-cons}
 use Rattle.std.proofs.lemmas.Str.Parse.{digit_from_value}
-use Rattle.std.specs.Prelude.{not, codes, decimal, slice_get, option_to_list, IsTrue, if◌then◌else◌}
+use Rattle.std.specs.Prelude.{not, decimal, slice_get, option_to_list, IsTrue, if◌then◌else◌}
 use Rattle.std.specs.List.{All, AllByRecursion, list_any, list_all, position_or_len, flat_map}
 use Rattle.std.specs.Str.Parse.{AllDigits}
 use Rattle.me_terms.specs.LabelEquality.{same_symbol}
-use Rattle.me_terms.specs.Labels.{is_printable, IsReadable, IsClauseLabel, IsFunctionSymbol, IsPredicateSymbol}
+use Rattle.me_terms.specs.Labels.{is_printable, IsClauseLabel, IsFunctionSymbol, IsPredicateSymbol}
 use Rattle.me_terms.specs.Measures.{literal_depth}
-use Rattle.me_terms.specs.Signatures.{with_symbol, number_of, takes, is_known, are_known, is_known_atom}
-use Rattle.me_terms.specs.Terms.{TermValue, Var, App, Arguments, Nil, Cons}
-use Rattle.me_terms.specs.Validity.{clause_variables, IsValidClause, IsValid}
-use Rattle.me_terms.specs.Values.{LabelValue, SymbolValue, SignatureValue, ClauseValue, ProblemValue}
+use Rattle.me_terms.specs.Signatures.{with_symbol, number_of, takes, is_known, is_known_atom}
+use Rattle.me_terms.specs.Terms.{TermValue, Nil, Cons}
+use Rattle.me_terms.specs.Validity.{clause_variables, IsValidClause}
+use Rattle.me_terms.specs.Values.{SymbolValue, SignatureValue, ClauseValue, ProblemValue}
 use Rattle.me_terms.specs.Variables.{variables_of, depths, is_numbered_from, first_ones}
-use Rattle.me_terms.specs.declared.atom.Literal.{Literal}
-use Rattle.tptp_cnf.specs.Meaning.{word, with_symbols, is_constant, c0_symbol, with_constant}
+use Rattle.tptp_cnf.specs.Meaning.{with_symbols, is_constant, c0_symbol, with_constant}
 use Rattle.tptp_cnf.specs.Plain.{function_numbers, symbols_at, clauses_functions, clauses_predicates, HasNumbersFrom, IsWithinLimits, IsPlain}
 use Rattle.tptp_cnf.proofs.Lawful.{both}
 use Rattle.tptp_cnf.proofs.Numbering.{Longer, longer_same}
@@ -27,7 +26,7 @@ use Rattle.rand_core.specs.Steps.{first_words}
 use Rattle.rand_pcg.specs.Lcg.{Lcg}
 use Rattle.rand_pcg.specs.Pcg.{pcg32, pcg32_of_seed}
 use Rattle.rand_core.specs.Pcg32Seed.{pcg32_seed}
-use Rattle.make_problem.specs.Made.{words_of, predicate_of, constant_by, constant_of, argument_as, literal_of, predicates_of, constants_of, literals_of, label_of, clauses_of, IsMade}
+use Rattle.make_problem.specs.Made.{words_of, predicate_of, constant_by, constant_of, argument_as, predicates_of, constants_of, literals_of, label_of, clauses_of, IsMade}
 use Rattle.make_problem.specs.Drawn.{with_words}
 use Rattle.make_problem.proofs.Standing.{Stand, stand, stand_longer, found, Known, known_parts, LongerSignature, words_known, clauses_stay}
 

@@ -1,9 +1,9 @@
 -- Symbols that stand in a list keep their numbers as more are added.
-use Rattle.std.proofs.Common.{◌≡◌, ℕ, zero, suc, ◌+◌, Bool, true, false, cond, ◌||◌, List, [], ◌∷◌, ◌++◌, map, take, drop, Option, Some, None, refl, sym, ap, subst, ◌∙◌, append_assoc, one-add}
+use Rattle.std.proofs.Common.{◌≡◌, ℕ, zero, suc, ◌+◌, Bool, true, false, cond, ◌||◌, List, [], ◌∷◌, ◌++◌, take, drop, Option, Some, None, refl, sym, ap, subst, ◌∙◌, one-add}
 use Rattle.std.proofs.lemmas.Grind.{flat_map-append}
 use Rattle.std.proofs.lemmas.List.{map-append, take-append-drop}
 use Rattle.std.specs.Prelude.{not, slice_get, option_to_list}
-use Rattle.std.specs.List.{AllByRecursion, list_any, position_or_len, flat_map}
+use Rattle.std.specs.List.{AllByRecursion, list_any}
 use Rattle.me_terms.specs.LabelEquality.{same_symbol}
 use Rattle.me_terms.specs.LabelEqualityLaws.{same_symbol_sound}
 use Rattle.me_terms.specs.Signatures.{with_symbol, number_of}

@@ -1,5 +1,5 @@
-use Rattle.std.proofs.Common.{rules, ◌≡◌, ℕ, suc, ◌+◌, ◌-◌, ◌*◌, ◌++◌, [], ◌∷◌, List, take, drop, sym, ap, ◌∙◌, arith}
-use Rattle.me_terms.specs.Values.{LabelValue, SignatureValue, ClauseValue}
+use Rattle.std.proofs.Common.{rules, ◌≡◌, ℕ, suc, ◌+◌, ◌-◌, ◌*◌, ◌++◌, [], ◌∷◌, List, take, drop, ap, ◌∙◌, arith}
+use Rattle.me_terms.specs.Values.{LabelValue, ClauseValue}
 use Rattle.me_terms.specs.declared.atom.Literal.{Literal}
 use Rattle.make_problem.specs.Drawn.{with_words}
 use Rattle.make_problem.specs.Made.{label_of, literals_of, clauses_of}

@@ -1,7 +1,7 @@
-use Rattle.std.proofs.Common.{◌≡◌, ◌*◌, List, [], ℕ, length, refl, sym, ap, ◌∙◌}
+use Rattle.std.proofs.Common.{◌*◌, [], length, refl, ap, ◌∙◌}
 use Rattle.me_terms.specs.Values.{SignatureValue}
 use Rattle.make_problem.specs.Drawn.{with_words}
-use Rattle.make_problem.specs.Made.{clauses_of}
+use Rattle.make_problem.specs.Made.{words_of, clauses_of}
 use Rattle.make_problem.proofs.Plainness.{words_length, drawn_constants, made_by_words, made_is_plain}
 use Rattle.make_problem.proofs.problem.make.Goals as goal
 
@@ -12,7 +12,7 @@ drawn_clauses-requires-clause-words c =
 pub add_constant-requires : goal.add_constant-requires
 add_constant-requires c =
     let drawn = c.in_ok-clauses.ensures.added ∙ ap (λ (s : SignatureValue). with_words c.args.preds s c.deref.result.now) c.new-signature.ensures ∙ ap (with_words c.args.preds (record { functions = []; predicates = [] })) (c.deref.ensures.value ∙ c.in_ok-words.ensures) in
-    drawn_constants c.args.preds c.drawn_clauses.new.signature _ drawn
+    drawn_constants c.args.preds c.drawn_clauses.new.signature (words_of c.args.seed (3 * c.args.clauses)) drawn
 
 pub returns-clause-made : goal.returns-clause-made
 returns-clause-made c =

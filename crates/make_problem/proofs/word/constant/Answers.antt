@@ -1,4 +1,4 @@
-use Rattle.std.proofs.Common.{Some, sym, ap, ◌∙◌}
+use Rattle.std.proofs.Common.{Some, sym, ap, ◌∙◌, ◌/◌, ◌%◌, arith}
 use Rattle.me_terms.specs.Values.{SymbolValue}
 use Rattle.make_problem.specs.Made.{constant_by}
 use Rattle.make_problem.proofs.Words.{chosen_other}
@@ -13,4 +13,5 @@ returns-in_ok-constant_named-in-1 c =
     ap (λ (s : SymbolValue). Some s) c.in_ok-constant_named-in-1.ensures ∙ ap constant_by (sym c.in-1.is)
 
 pub returns-in_default : goal.returns-in_default
-returns-in_default c = sym (chosen_other _ c.in_default.0 c.in_default.1)
+returns-in_default c =
+    sym (chosen_other (c.args.word / 131072 % 4) (λ e. omega (arith, e)) (λ e. omega (arith, e)))
