@@ -1,10 +1,10 @@
 -- From the matches to what the words ask for.
-use Rattle.std.proofs.Common.{◌≡◌, List, [], ◌∷◌, map, Option, sym, subst, Result, Ok, Err, IfOk}
+use Rattle.std.proofs.Common.{◌≡◌, List, [], ◌∷◌, Option, sym, subst, Result, Ok, Err, IfOk}
 use Rattle.std.specs.Prelude.{IfErr}
 use Rattle.std.specs.Global.{Global}
 use Rattle.std.specs.declared.string.String.{String}
 use Rattle.clap.specs.declared.parser.matches.ArgMatches.{ArgMatches}
-use Rattle.darwin_options.specs.Settings.{OptionKind, Word, Setting, value_of, AreDistinct, AreInForm, Distinguishes, IsInForm}
+use Rattle.darwin_options.specs.Settings.{OptionKind, Word, Setting, value_of, AreInForm, Distinguishes}
 use Rattle.darwin_options.specs.OptionsCommand.{value_found, HoldsValuesOf, IsFoundIn, AreNoSettings}
 use Rattle.darwin_options.specs.AcceptedWords.{Sets, AreAccepted, AreOptionsOf, Asks}
 use Rattle.darwin_options.specs.declared.options.Options.{Options}

@@ -1,16 +1,15 @@
 -- What a parse took reads as settings of different options, whose values it found.
-use Rattle.std.proofs.Common.{◌≡◌, ◌∙◌, ◌||◌, Bool, true, false, refl, sym, ap, subst, List, [], ◌∷◌, ◌++◌, map, Option, Some, None, true≢false, append-nil, append_assoc}
-use Rattle.std.specs.List.{fold, list_any}
+use Rattle.std.proofs.Common.{◌≡◌, ◌∙◌, ◌||◌, Bool, true, false, refl, sym, ap, subst, List, [], ◌∷◌, ◌++◌, Option, Some, None, true≢false, append-nil, append_assoc}
+use Rattle.std.specs.List.{list_any}
 use Rattle.std.proofs.lemmas.List.{map-append}
 use Rattle.clap.specs.Kinds.{Kinds, or_else}
-use Rattle.clap.specs.Walk.{Row, Text, idle, option, Walk, settled_rows, used, walked}
-use Rattle.clap.specs.Faults.{react_fault, settle_fault, turn_fault, use_fault, walk_fault}
-use Rattle.clap.specs.declared.error.kind.ErrorKind.{ErrorKind}
+use Rattle.clap.specs.Walk.{Row, idle, Walk, used, walked}
+use Rattle.clap.specs.Faults.{settle_fault, turn_fault, use_fault, walk_fault}
 use Rattle.darwin_options.specs.Settings.{OptionKind, Word, Setting, long_name, written_name, BeginsWithHyphen, ReadsAs, nothing, two_words, one_word, AreDifferent}
 use Rattle.darwin_options.specs.OptionsCommand.{begins_with_hyphen, is_bare}
-use Rattle.darwin_options.proofs.Turns.{top, rules, rule, row, held, at, awaits, name_fault, name_walked, both_fault, both_walked, value_fault, value_walked, stray, unknown, unknown_waiting, name_waiting, both_waiting, empty_fault, use_first, used_first}
+use Rattle.darwin_options.proofs.Turns.{top, rules, rule, row, held, at, awaits, name_fault, name_walked, both_fault, both_walked, value_walked, stray, unknown, unknown_waiting, name_waiting, both_waiting, empty_fault, used_first}
 use Rattle.darwin_options.proofs.Reading.{rows_for, pending_for, noted, one_more, some_kind, used_newly, settled_back}
-use Rattle.darwin_options.proofs.Taken.{rest_fault, last_rows, idle_after, hyphen_known, Seen, plain, named, both, other, seen}
+use Rattle.darwin_options.proofs.Taken.{rest_fault, last_rows, idle_after, hyphen_known, plain, named, both, other, seen}
 
 abbrev set_to : OptionKind → Word → Setting
 set_to o v = record { option = o; value = v }

@@ -1,20 +1,17 @@
 -- The parse takes just the words that read as settings, each of another option, and finds their values.
-use Rattle.std.proofs.Common.{◌≡◌, ◌≢◌, ◌∙◌, ◌⊎◌, inl, inr, ◌+◌, ◌<◌, ◌-◌, eqb, ◌&&◌, ◌||◌, ℕ, Bool, cond, codes, true, false, not, is_some, zero, suc, refl, sym, ap, subst, arith, List, [], ◌∷◌, ◌++◌, map, length, take, drop, Option, Some, None, option_map, true≢false, append-nil, append_assoc, length-append}
-use Rattle.std.specs.Prelude.{option_and_then}
-use Rattle.std.specs.List.{All, AllPairs, find, fold, list_any, slice_index_or, position_or_len, before_first, after_first}
+use Rattle.std.proofs.Common.{◌≡◌, ◌≢◌, ◌∙◌, ◌+◌, ◌<◌, ◌||◌, ℕ, Bool, true, false, zero, suc, refl, sym, ap, subst, arith, List, [], ◌∷◌, ◌++◌, map, length, Option, Some, None, true≢false, append_assoc, length-append}
+use Rattle.std.specs.List.{list_any, slice_index_or, position_or_len}
 use Rattle.std.specs.Str.{bytes_eq}
 use Rattle.std.proofs.lemmas.Slice.Eq.{bytes_eq-Decides}
-use Rattle.std.proofs.lemmas.Bool.Decides.{Decides-eqb}
 use Rattle.std.proofs.lemmas.List.{map-append, get_or_append_left}
 use Rattle.std.proofs.lemmas.List.Quantifiers.{all_pairs_push}
-use Rattle.clap.specs.Lexer.{long_of, long_of_rest, strip_byte, has_byte, is_long_word}
-use Rattle.clap.specs.Kinds.{Kinds, or_else}
-use Rattle.clap.specs.Walk.{Held, Row, Rule, Text, Waiting, idle, option, Walk, arg_by_long, has_long, has_row, settled_rows, used, walked}
-use Rattle.clap.specs.Faults.{react_fault, settle_fault, turn_fault, use_fault, walk_fault}
+use Rattle.clap.specs.Kinds.{Kinds}
+use Rattle.clap.specs.Walk.{Row, has_row, settled_rows}
+use Rattle.clap.specs.Faults.{settle_fault, use_fault}
 use Rattle.clap.specs.declared.error.kind.ErrorKind.{ErrorKind}
-use Rattle.darwin_options.specs.Settings.{OptionKind, Name, Depth, Weight, Literals, ListWeight, Workers, Share, Make, Word, Setting, long_name, written_name, BeginsWithHyphen, ReadsAs, nothing, two_words, one_word, AreDifferent}
+use Rattle.darwin_options.specs.Settings.{OptionKind, Name, Depth, Weight, Literals, ListWeight, Workers, Share, Make, Word, Setting, long_name, AreDifferent}
 use Rattle.darwin_options.specs.OptionsCommand.{all_options}
-use Rattle.darwin_options.proofs.Turns.{top, rules, rule, row, Pending, held, at, awaits, name_fault, name_walked, both_fault, both_walked, value_fault, value_walked, stray, unknown, unknown_waiting, name_waiting, both_waiting, pending_fault, pending_rows, empty_fault, use_again, use_first, used_first}
+use Rattle.darwin_options.proofs.Turns.{rules, rule, row, Pending, held, pending_fault, pending_rows, use_again, use_first, used_first}
 
 -- ---- settings of different options
 

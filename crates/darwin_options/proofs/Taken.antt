@@ -1,19 +1,18 @@
 -- A parse takes the words that read as settings of different options, and no others but those with a bare hyphen.
-use Rattle.std.proofs.Common.{◌≡◌, ◌≢◌, ◌∙◌, ◌⊎◌, inl, inr, ◌+◌, ◌<◌, ◌-◌, eqb, ◌&&◌, ◌||◌, ℕ, Bool, cond, codes, true, false, not, is_some, zero, suc, refl, sym, ap, subst, arith, List, [], ◌∷◌, ◌++◌, map, length, take, drop, Option, Some, None, option_map, true≢false, append-nil, append_assoc}
+use Rattle.std.proofs.Common.{◌≡◌, ◌∙◌, ◌⊎◌, inl, inr, ◌+◌, eqb, ◌&&◌, ◌||◌, ℕ, Bool, cond, true, false, not, is_some, suc, refl, sym, ap, subst, arith, List, [], ◌∷◌, ◌++◌, map, take, drop, Option, Some, None, true≢false, append-nil, append_assoc}
 use Rattle.std.specs.Prelude.{option_and_then}
 use Rattle.std.specs.List.{find, fold, list_any, position_or_len, before_first, after_first}
 use Rattle.std.specs.Str.{bytes_eq}
 use Rattle.std.proofs.lemmas.Slice.Eq.{bytes_eq-Decides}
 use Rattle.std.proofs.lemmas.Bool.Decides.{Decides-eqb}
-use Rattle.clap.specs.Lexer.{long_of, long_of_rest, strip_byte, has_byte, is_long_word}
+use Rattle.clap.specs.Lexer.{long_of, long_of_rest, strip_byte, has_byte}
 use Rattle.clap.specs.Kinds.{Kinds, or_else}
-use Rattle.clap.specs.Walk.{Row, Rule, Text, idle, option, Walk, arg_by_long, has_long, has_row, settled_rows, used, walked}
+use Rattle.clap.specs.Walk.{Row, Text, idle, Walk, arg_by_long, has_long, settled_rows, used, walked}
 use Rattle.clap.specs.Faults.{react_fault, settle_fault, turn_fault, use_fault, walk_fault}
-use Rattle.clap.specs.declared.error.kind.ErrorKind.{ErrorKind}
 use Rattle.darwin_options.specs.Settings.{OptionKind, Word, Setting, long_name, written_name, BeginsWithHyphen, ReadsAs, nothing, two_words, one_word, AreDifferent}
 use Rattle.darwin_options.specs.OptionsCommand.{all_options, begins_with_hyphen, is_bare}
-use Rattle.darwin_options.proofs.Turns.{top, rules, rule, row, Pending, held, at, awaits, name_fault, name_walked, both_fault, both_walked, value_fault, value_walked, stray, unknown, unknown_waiting, name_waiting, both_waiting, empty_fault, use_first, used_first}
-use Rattle.darwin_options.proofs.Reading.{rows_for, pending_for, noted, new_here, one_more, some_kind, used_newly, settled_well, settled_back}
+use Rattle.darwin_options.proofs.Turns.{top, rules, rule, row, held, at, awaits, name_fault, name_walked, both_fault, both_walked, value_fault, value_walked, use_first, used_first}
+use Rattle.darwin_options.proofs.Reading.{rows_for, pending_for, noted, new_here, settled_well}
 
 -- what fails from here on, and the rows at the end
 abbrev pub rest_fault : Walk → List Word → Kinds

@@ -1,15 +1,15 @@
 -- What a parse makes of one word of the command whose arguments are the options.
-use Rattle.std.proofs.Common.{◌≡◌, ◌∙◌, ◌+◌, eqb, ◌&&◌, ◌||◌, ℕ, Bool, cond, codes, true, false, not, zero, suc, refl, sym, ap, subst, arith, List, [], ◌∷◌, ◌++◌, map, length, drop, Option, Some, None, true≢false, append-nil, append_assoc}
-use Rattle.std.specs.List.{find, fold, list_any}
+use Rattle.std.proofs.Common.{◌≡◌, ◌||◌, Bool, cond, true, false, refl, ap, List, [], ◌∷◌, ◌++◌, map, Option, Some, None, true≢false}
+use Rattle.std.specs.List.{fold}
 use Rattle.std.specs.Str.{bytes_eq}
 use Rattle.clap.specs.Lexer.{long_of, short_of}
-use Rattle.clap.specs.Kinds.{Kinds, or_else}
-use Rattle.clap.specs.Walk.{Held, Row, at_row, more_values, Rule, Text, Waiting, idle, option, Walk, arg_by_id, arg_by_long, has_row, reading_by, settled_rows, used, walked, with_default, with_values}
+use Rattle.clap.specs.Kinds.{or_else}
+use Rattle.clap.specs.Walk.{Held, Row, at_row, more_values, Rule, Text, Waiting, idle, option, Walk, arg_by_long, has_row, reading_by, settled_rows, used, walked, with_default}
 use Rattle.clap.specs.Simple.{Shape, built, filled, with_index}
 use Rattle.clap.specs.Faults.{defaults_fault, react_fault, settle_fault, turn_fault, use_fault}
 use Rattle.clap.specs.declared.parser.matches.ValueSource.TheVariants.{CommandLine}
 use Rattle.clap.specs.declared.error.kind.ErrorKind.TheVariants.{ArgumentConflict, InvalidValue, UnknownArgument}
-use Rattle.darwin_options.specs.Settings.{OptionKind, Name, Depth, Weight, Literals, ListWeight, Workers, Share, Make, Word, Setting, long_name, written_name, BeginsWithHyphen}
+use Rattle.darwin_options.specs.Settings.{OptionKind, Name, Depth, Weight, Literals, ListWeight, Workers, Share, Make, Word, Setting, long_name, written_name}
 use Rattle.darwin_options.specs.OptionsCommand.{all_options, begins_with_hyphen, options_app, rule_of_option}
 
 abbrev pub top : Shape

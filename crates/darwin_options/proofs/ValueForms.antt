@@ -1,8 +1,7 @@
 -- Values of settings, and values of options.
-use Rattle.std.proofs.Common.{◌≡◌, ◌∙◌, ◌<◌, ◌≤◌, ℕ, Bool, cond, true, false, zero, suc, refl, sym, ap, subst, arith, List, [], ◌∷◌, length, Option, Some, None, option_map}
+use Rattle.std.proofs.Common.{◌≡◌, ◌<◌, ℕ, Bool, cond, true, false, zero, suc, refl, subst, arith, List, [], ◌∷◌, length, Option, Some, None, option_map}
 use Rattle.std.specs.Prelude.{IfSome, Result, Ok, Err, IfErr, OnErr}
 use Rattle.std.specs.List.{All, find, slice_index_or}
-use Rattle.std.specs.Str.{bytes_eq}
 use Rattle.std.proofs.lemmas.Slice.Eq.{bytes_eq-Decides}
 use Rattle.szs_print.specs.Printable.{IsName}
 use Rattle.darwin_options.specs.Settings.{OptionKind, Name, Depth, Weight, Literals, ListWeight, Workers, Share, Make, Word, Setting, long_name, is_of, value_of, AreDifferent, IsInForm, AreInForm, IsNumberWithin, IsNumberOr, IsOutside}

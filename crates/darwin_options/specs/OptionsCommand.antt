@@ -1,5 +1,5 @@
 -- The command whose arguments are the options, and what a parse by it finds.
-use Rattle.std.specs.Prelude.{◌≡◌, ℕ, ◌==◌, ◌&&◌, not, Bool, true, false, List, [], ◌∷◌, map, codes, Option, Some}
+use Rattle.std.specs.Prelude.{◌≡◌, ◌==◌, ◌&&◌, not, Bool, true, false, List, [], ◌∷◌, map, codes, Option, Some}
 use Rattle.std.specs.Global.{Global}
 use Rattle.std.specs.declared.string.String.{String}
 use Rattle.darwin_options.specs.Settings.{OptionKind, Name, Depth, Weight, Literals, ListWeight, Workers, Share, Make, Word, Setting, long_name, value_of, Distinguishes}
@@ -7,8 +7,8 @@ use Rattle.std.specs.List.{list_any}
 use Rattle.std.specs.String.{string_bytes}
 use Rattle.clap.specs.Lexer.{is_long_word}
 use Rattle.clap.specs.Matches.{first_value, found_of}
-use Rattle.clap.specs.Walk.{Rule, Row}
-use Rattle.clap.specs.Simple.{App, new_app, new_rule, with_rule, on_top}
+use Rattle.clap.specs.Walk.{Rule}
+use Rattle.clap.specs.Simple.{App, new_app, new_rule, on_top}
 use Rattle.clap.specs.declared.parser.matches.ArgMatches.{ArgMatches}
 use Rattle.clap.specs.declared.builder.action.ArgAction.TheVariants.{Set}
 
