@@ -1,5 +1,4 @@
-use Rattle.std.proofs.Common.{None, ap, ◌∙◌}
-use Rattle.context_unifier.specs.Cursors.{CursorValue}
+use Rattle.std.proofs.Common.{None}
 use Rattle.next_rule.specs.SplitSearches.{size_limit}
 use Rattle.next_rule.proofs.SplitLoops.{splits_so_far, splits_all}
 use Rattle.next_rule.proofs.Cursors.{advances, fewer_limited, limited_to, no_more}
