@@ -1,4 +1,5 @@
 pub mod Ahead
+pub mod Around
 pub mod Prefixes
 pub mod Produced
 pub mod Remains

@@ -1,11 +1,10 @@
 -- An asserted entry that is asked for at a new literal is answered by the instance of its clause.
-use Rattle.std.proofs.Common.{◌≡◌, ℕ, suc, ◌+◌, ◌<◌, ◌≤◌, min, Bool, true, false, List, [], ◌∷◌, ◌++◌, length, map, reverse, take, drop, length-append, length-drop, slice_get, Option, Some, None, refl, sym, subst, ap, ◌∙◌, arith}
-use Rattle.std.specs.List.{list_any, insert}
+use Rattle.std.proofs.Common.{◌≡◌, ℕ, suc, ◌+◌, ◌<◌, ◌≤◌, false, List, [], ◌∷◌, ◌++◌, length, map, reverse, take, drop, length-append, length-drop, Option, Some, None, refl, sym, subst, ap, ◌∙◌, arith}
+use Rattle.std.specs.List.{list_any}
 use Rattle.std.proofs.lemmas.List.{reverse-append, length-take}
 use Rattle.indexmap.specs.IndexSet.{insert_key}
 use Rattle.me_terms.specs.Validity.{IsValid}
-use Rattle.me_terms.specs.Variables.{are_ground}
-use Rattle.me_terms.specs.Values.{ProblemValue, ClauseValue, InstanceValue}
+use Rattle.me_terms.specs.Values.{ProblemValue, InstanceValue}
 use Rattle.me_terms.specs.Context.{Context}
 use Rattle.me_terms.specs.Positions.{positions_of}
 use Rattle.me_terms.specs.Close.{IsClose}

@@ -1,13 +1,12 @@
 -- The instance by which an asserted entry holds at a ground literal: a most general unifier of the other places and of its own literal with the one asked for, with c0 for all that is left.
-use Rattle.std.proofs.Common.{◌≡◌, ℕ, suc, ◌+◌, ◌<◌, true, ◌⊎◌, inl, inr, List, [], ◌∷◌, ◌++◌, length, Option, Some, refl, sym, subst, ap, ◌∙◌, arith}
+use Rattle.std.proofs.Common.{◌≡◌, ℕ, suc, true, ◌⊎◌, inl, inr, List, [], ◌∷◌, Option, Some, refl, sym, ap, ◌∙◌, arith}
 use Rattle.std.specs.List.{Contains}
-use Rattle.me_terms.specs.Terms.{TermValue, Var, App, Arguments, AtomValue}
+use Rattle.me_terms.specs.Terms.{TermValue, Var, App, AtomValue}
 use Rattle.me_terms.specs.Variables.{variables_of, are_ground}
-use Rattle.me_terms.specs.Substitutions.{Substitution, Family, apply_term, apply_arguments, apply_atom, apply_literal, followed_by}
+use Rattle.me_terms.specs.Substitutions.{Substitution, Family, apply_term, apply_arguments, apply_atom, followed_by}
 use Rattle.me_terms.specs.Values.{ProblemValue}
 use Rattle.me_terms.specs.Context.{Context}
 use Rattle.me_terms.specs.Positions.{positions_of}
-use Rattle.me_terms.specs.Unifier.{unified}
 use Rattle.me_terms.specs.ListedInstances.{constant, instance_of, IsAskedInstance}
 use Rattle.me_terms.specs.declared.atom.Literal.{Literal}
 use Rattle.me_laws.proofs.Generality.{arguments_followed, atom_followed}
@@ -16,9 +15,9 @@ use Rattle.me_laws.proofs.Lists.{EachOf, each_map, each_append, each_left, each_
 use Rattle.me_laws.proofs.Renaming as names
 use Rattle.me_laws.proofs.Renaming.{Each, agree_variables_all, variables_agree_all}
 use Rattle.me_laws.proofs.NoContradiction.{ground_atom}
-use Rattle.me_laws.proofs.OutcomeDetermined.{Has, has_decided, each_has, lacks}
+use Rattle.me_laws.proofs.OutcomeDetermined.{has_decided, each_has, lacks}
 use Rattle.me_existence.proofs.Splits.{contains_decided}
-use Rattle.me_unify.specs.Equations.{Equation, equation, SolvesOne, SolvesAll, IsSolvable, IsMostGeneral}
+use Rattle.me_unify.specs.Equations.{Equation, equation, SolvesOne, IsSolvable, IsMostGeneral}
 use Rattle.me_unify.specs.ClauseEquations.{equations_from}
 use Rattle.ground_refutation.specs.AskedEquations.{asked_equations}
 use Rattle.ground_refutation.proofs.Solving.{each_of, solves_places, places_solved, one_followed}

@@ -1,7 +1,6 @@
 -- The closing instance, and the instance of an asserted entry, of a clause whose literals are at hand.
-use Rattle.std.proofs.Common.{◌≡◌, ℕ, ◌<◌, ◌-◌, ◌^◌, true, List, [], ◌∷◌, ◌++◌, length, get_or, slice_get, Option, Some, None, refl, sym, subst, ap, ◌∙◌}
+use Rattle.std.proofs.Common.{◌≡◌, ℕ, ◌<◌, ◌-◌, ◌^◌, List, length, get_or, Option, Some, None, sym, subst, ap, ◌∙◌}
 use Rattle.std.proofs.lemmas.Option.{slice_get_within, get_or_from_slice_get}
-use Rattle.me_terms.specs.Variables.{are_ground}
 use Rattle.me_terms.specs.Substitutions.{Family}
 use Rattle.me_terms.specs.Values.{ProblemValue, ClauseValue}
 use Rattle.me_terms.specs.Context.{Context}
@@ -12,8 +11,7 @@ use Rattle.me_terms.specs.Unifier.{IsUnifier}
 use Rattle.me_terms.specs.Close.{IsClose}
 use Rattle.me_terms.specs.ListedInstances.{constant, instance_of, IsClosingInstance, IsAskedInstance}
 use Rattle.me_terms.specs.declared.atom.Literal.{Literal}
-use Rattle.me_laws.proofs.OutcomeDetermined.{closing_unique}
-use Rattle.me_unify.specs.Equations.{Equation, equation, IsSolvable, IsMostGeneral}
+use Rattle.me_unify.specs.Equations.{Equation, IsSolvable, IsMostGeneral}
 use Rattle.me_unify.specs.ClauseEquations.{equations_from}
 use Rattle.ground_refutation.specs.AskedEquations.{asked_equations}
 use Rattle.ground_refutation.specs.Queue.{IsAskedFor}

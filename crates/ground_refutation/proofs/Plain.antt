@@ -1,6 +1,6 @@
 -- The literal p.
 use Rattle.std.proofs.Common.{◌≡◌, [], ◌∷◌, List, ap, arith}
-use Rattle.me_terms.specs.Terms.{Arguments, Nil}
+use Rattle.me_terms.specs.Terms.{Nil}
 use Rattle.me_terms.specs.Variables.{weights}
 use Rattle.me_terms.specs.Measures.{literal_weight, literals_weight}
 use Rattle.me_terms.specs.declared.atom.Literal.{Literal}

@@ -1,9 +1,8 @@
 -- What solves the equations of a clause's places is what solves the clause's equations with the entries.
-use Rattle.std.proofs.Common.{◌≡◌, ℕ, zero, suc, ◌+◌, ◌<◌, List, [], ◌∷◌, ◌++◌, length, slice_get, Option, Some, None, refl, sym, subst, ap, ◌∙◌, arith}
+use Rattle.std.proofs.Common.{◌≡◌, ℕ, zero, suc, ◌+◌, List, [], ◌∷◌, slice_get, Option, Some, None, refl, sym, subst, ap, ◌∙◌, arith}
 use Rattle.std.specs.List.{All}
 use Rattle.std.proofs.lemmas.Option.{same_Some}
-use Rattle.me_terms.specs.Terms.{AtomValue}
-use Rattle.me_terms.specs.Substitutions.{Substitution, Family, apply_term, apply_atom, followed_by}
+use Rattle.me_terms.specs.Substitutions.{Substitution, Family, apply_atom, followed_by}
 use Rattle.me_terms.specs.Values.{EntryValue}
 use Rattle.me_terms.specs.Context.{Context, StandsAt}
 use Rattle.me_terms.specs.Positions.{entry_at}
@@ -12,8 +11,8 @@ use Rattle.me_terms.specs.declared.atom.Literal.{Literal}
 use Rattle.me_terms.specs.declared.atom.Pattern.{Pattern}
 use Rattle.me_terms.specs.declared.atom.Pattern.TheVariants.{Any, Of}
 use Rattle.me_laws.proofs.Generality.{atom_followed}
-use Rattle.me_laws.proofs.Lists.{EachOf, each_map, each_append, each_left, each_right, all_of}
-use Rattle.me_unify.specs.Equations.{Equation, equation, SolvesOne, SolvesAll, IsSolvable, IsMostGeneral}
+use Rattle.me_laws.proofs.Lists.{EachOf, each_append, each_left, each_right, all_of}
+use Rattle.me_unify.specs.Equations.{Equation, SolvesOne, IsSolvable, IsMostGeneral}
 use Rattle.me_unify.specs.ClauseEquations.{equations_with, equations_at, equations_from}
 
 pub each_of : {A : Type 0} (P : A → Type 0) (xs : List A) → All P xs → EachOf P xs

@@ -1,8 +1,8 @@
 -- One demand of the queue is worked: it adds nothing, or the instance of an asserted entry with the demands of that instance.
-use Rattle.std.proofs.Common.{◌≡◌, ℕ, suc, ◌+◌, ◌<◌, ◌≤◌, Bool, true, false, ◌&&◌, ◌||◌, eqb, ◌⊎◌, inl, inr, List, [], ◌∷◌, ◌++◌, length, map, reverse, slice_get, Option, Some, None, refl, sym, subst, ap, ◌∙◌, arith}
+use Rattle.std.proofs.Common.{◌≡◌, ℕ, Bool, true, false, ◌&&◌, ◌||◌, eqb, ◌⊎◌, inl, inr, List, [], ◌∷◌, ◌++◌, reverse, Some, refl, sym, subst, ap, ◌∙◌, arith}
 use Rattle.std.specs.Bool.{beq}
 use Rattle.me_terms.specs.TermEquality.{same_atom}
-use Rattle.std.specs.List.{Contains, list_any, insert}
+use Rattle.std.specs.List.{Contains, list_any}
 use Rattle.std.proofs.lemmas.Option.{same_Some}
 use Rattle.std.proofs.lemmas.List.{reverse-append}
 use Rattle.std.proofs.lemmas.List.Folds.{list_any-append}
@@ -10,41 +10,19 @@ use Rattle.std.proofs.lemmas.Bool.{eqb-true}
 use Rattle.std.proofs.lemmas.Grind.{common_steps}
 use Rattle.std.specs.Cmp.{IsEquivalence}
 use Rattle.std.proofs.lemmas.Map.Views.{list_any-from_Contains}
-use Rattle.indexmap.specs.IndexSet.{insert_key}
 use Rattle.indexmap.proofs.CallerLemmas.{Contains-list_any}
 use Rattle.me_terms.specs.Terms.{TermValue, Var, App, Arguments, Nil, Cons}
 use Rattle.me_terms.specs.TermEqualityLaws.{both_parts, deciding, same_atom_sound, same_atom_itself}
 use Rattle.me_terms.specs.Variables.{is_ground, are_ground}
-use Rattle.me_terms.specs.Substitutions.{apply_literal}
-use Rattle.me_terms.specs.Unifier.{unified}
-use Rattle.me_terms.specs.Values.{ProblemValue, ClauseValue, EntryValue, InstanceValue, ReasonValue, Asserted}
+use Rattle.me_terms.specs.Values.{ProblemValue, EntryValue, InstanceValue, ReasonValue, Asserted}
 use Rattle.me_terms.specs.Context.{Context, StandsAt}
 use Rattle.me_terms.specs.Positions.{positions_of}
-use Rattle.me_terms.specs.Validity.{IsValid}
 use Rattle.me_terms.specs.GroundInstances.{is_ground_term, are_ground_terms}
-use Rattle.me_terms.specs.FirstOccurrences.{same_instance, first_occurrences}
-use Rattle.me_terms.specs.ListedInstances.{constant, instance_of, IsClosingInstance, IsAskedInstance}
-use Rattle.me_terms.specs.LeafList.{Demand, demands, IsAsserted, AddsNothing, Adds, none_waits, passes, adds, IsLeafList}
-use Rattle.me_terms.specs.Close.{IsClose}
-use Rattle.me_terms.specs.Grown.{IsGrown}
-use Rattle.me_terms.specs.Measures.{literals_weight, list_weight}
-use Rattle.me_terms.specs.declared.bounds.Bounds.{Bounds}
+use Rattle.me_terms.specs.FirstOccurrences.{first_occurrences}
+use Rattle.me_terms.specs.ListedInstances.{IsAskedInstance}
+use Rattle.me_terms.specs.LeafList.{Demand, demands, IsAsserted, AddsNothing, Adds, none_waits, passes, adds}
 use Rattle.me_terms.specs.declared.atom.Literal.{Literal}
-use Rattle.me_laws.proofs.Backed.{grown_backed}
-use Rattle.me_laws.proofs.Lists.{EachOf, each_map, each_append}
-use Rattle.me_laws.proofs.OutcomeDetermined.{asked_unique, closing_unique}
-use Rattle.me_existence.proofs.Outcomes.{leaf_list}
-use Rattle.me_refutation.proofs.Sound.{IsSound, grown_sound}
-use Rattle.me_refutation.proofs.Demands.{IsRight, IsRightBelow}
-use Rattle.me_refutation.proofs.Asked.{asked_facts, AskedFacts}
-use Rattle.me_refutation.proofs.Leaf.{closing_facts, ClosingFacts}
-use Rattle.me_unify.specs.Equations.{IsMostGeneral}
-use Rattle.me_unify.specs.ClauseEquations.{equations_from}
-use Rattle.ground_refutation.specs.Queue.{same_demand, Completes, IsAskedFor}
-use Rattle.ground_refutation.specs.Work.{longest, work, work_all}
-use Rattle.ground_refutation.proofs.Listing.{one_more}
-use Rattle.ground_refutation.proofs.Solving.{is_unifier}
-use Rattle.ground_refutation.proofs.Work.{IsBelow, work_falls, work_append, few_demands, is_long}
+use Rattle.ground_refutation.specs.Queue.{same_demand, Completes}
 
 -- ---- what was asked
 sign_sound : (a b : Bool) → beq a b ≡ true → a ≡ b

@@ -1,11 +1,11 @@
 -- Reading variables as a constant leaves weights as they are.
-use Rattle.std.proofs.Common.{◌≡◌, ℕ, ◌+◌, ◌≤◌, List, [], ◌∷◌, map, refl, sym, ap, ◌∙◌, arith}
+use Rattle.std.proofs.Common.{◌≡◌, ℕ, ◌+◌, refl, ap}
 use Rattle.me_terms.specs.Terms.{TermValue, Var, App, Arguments, Nil, Cons}
 use Rattle.me_terms.specs.Substitutions.{Family, apply_term, apply_arguments, apply_atom, apply_literal}
 use Rattle.me_terms.specs.Variables.{weight, weights}
-use Rattle.me_terms.specs.Measures.{literal_weight, literals_weight}
+use Rattle.me_terms.specs.Measures.{literal_weight}
 use Rattle.me_terms.specs.Unifier.{unified}
-use Rattle.me_terms.specs.ListedInstances.{constant, instance_of}
+use Rattle.me_terms.specs.ListedInstances.{constant}
 use Rattle.me_terms.specs.declared.atom.Literal.{Literal}
 
 mutual

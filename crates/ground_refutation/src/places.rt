@@ -2,7 +2,7 @@
 //! positions.
 //!
 //! Each place has a space of variables of its own, behind that of the clause.
-ghost use Rattle.std.specs.Prelude.{◌≡◌, ◌≤◌, ◌<◌, ◌-◌, ◌^◌, ◌++◌, MatchOption, IfOk, OnOk, length, map};
+ghost use Rattle.std.specs.Prelude.{◌≡◌, ◌≤◌, ◌<◌, ◌+◌, ◌-◌, ◌^◌, ◌++◌, MatchOption, IfOk, OnOk, length, map};
 ghost use Rattle.me_terms.specs.Positions.{positions_of, entry_at};
 ghost use Rattle.me_unify.specs.Equations.{IsSolvable};
 ghost use Rattle.me_unify.specs.ClauseEquations.{equations_at, equations_from};

@@ -1,2 +1,3 @@
+pub mod Distinct
 pub mod Matchers
 pub mod Numbered

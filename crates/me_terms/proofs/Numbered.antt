@@ -1,12 +1,11 @@
 -- Names that are given one by one, in the order in which variables first stand.
-use Rattle.std.proofs.Common.{◌≡◌, ℕ, zero, suc, ◌+◌, ◌<◌, ◌≤◌, Bool, true, false, ◌||◌, cond, eqb, List, [], ◌∷◌, ◌++◌, length, drop, get_or, slice_get, Some, refl, ap, sym, subst, ◌∙◌, append_assoc, arith}
+use Rattle.std.proofs.Common.{◌≡◌, ℕ, zero, suc, ◌+◌, ◌<◌, ◌≤◌, Bool, true, false, ◌||◌, cond, eqb, List, [], ◌∷◌, ◌++◌, length, drop, slice_get, Some, refl, ap, sym, subst, ◌∙◌, append_assoc, arith}
 use Rattle.std.specs.List.{list_any, position_or_len}
-use Rattle.std.proofs.lemmas.Bool.{eqb-true}
 use Rattle.std.proofs.lemmas.Grind.{common_steps}
 use Rattle.std.proofs.lemmas.List.{drop_more, drop_all, append-nil}
 use Rattle.std.proofs.lemmas.List.Recursion.{is_position_or_len}
 use Rattle.std.proofs.lemmas.Option.{slice_get_within, get_or_from_slice_get}
-use Rattle.me_terms.specs.Terms.{TermValue, Var, Arguments, Nil, Cons, arguments_of, height, heights}
+use Rattle.me_terms.specs.Terms.{TermValue, Arguments, Nil, Cons, arguments_of, height, heights}
 use Rattle.me_terms.specs.Substitutions.{Substitution, apply_term, apply_arguments}
 use Rattle.me_terms.specs.Variables.{term_variables, variables_of, first_ones, place_of}
 use Rattle.me_terms.specs.Names.{by_place}

@@ -1,5 +1,5 @@
 -- The labels and symbols that a file can have.
-use Rattle.std.specs.Prelude.{◌≡◌, ℕ, ◌≢◌, ◌≤◌, Bool, ◌&&◌, nat_le, List, [], IsTrue}
+use Rattle.std.specs.Prelude.{◌≡◌, ℕ, ◌≢◌, Bool, ◌&&◌, nat_le, List, [], IsTrue}
 use Rattle.std.specs.List.{list_all}
 use Rattle.me_terms.specs.Values.{LabelValue, SymbolValue}
 use Rattle.me_terms.specs.declared.symbol.Form.{Form}

@@ -1,5 +1,5 @@
 -- When a problem is valid, and when bounds are lawful.
-use Rattle.std.specs.Prelude.{◌≡◌, ℕ, ◌-◌, ◌^◌, ◌<◌, ◌≤◌, List, length, slice_get, IsTrue}
+use Rattle.std.specs.Prelude.{ℕ, ◌-◌, ◌^◌, ◌<◌, ◌≤◌, List, length, slice_get, IsTrue}
 use Rattle.std.specs.List.{All, list_all, flat_map}
 use Rattle.me_terms.specs.Labels.{IsClauseLabel, IsFunctionSymbol, IsPredicateSymbol}
 use Rattle.me_terms.specs.Signatures.{takes, is_known_atom}

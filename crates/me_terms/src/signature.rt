@@ -2,8 +2,10 @@
 //!
 //! Functions and predicates have numbers of their own, from 0. A number once given stays, and a symbol
 //! that is added again keeps the number that it has.
-ghost use Rattle.std.specs.Prelude.{◌≡◌, ◌↔◌, ◌<◌, ◌-◌, ◌^◌, [], length, slice_get, IfOk, IsSome, OnOk, OnErr};
+ghost use Rattle.std.specs.Prelude.{◌≡◌, ◌↔◌, ◌<◌, ◌-◌, ◌^◌, [], length, slice_get, IfOk, IfSome, IsSome, OnOk, OnErr};
+ghost use Rattle.std.specs.List.{IsDistinct};
 ghost use Rattle.std.specs.Option.{option_copied};
+ghost use Rattle.me_terms.specs.LabelEquality.{same_symbol};
 ghost use Rattle.me_terms.specs.Signatures.{with_symbol, number_of};
 
 use crate::symbol::Symbol;
@@ -26,7 +28,10 @@ impl Model for Signature {
 
     ghost view = { λ s. record { functions = s.functions.keys; predicates = s.predicates.keys } };
 
-    ghost invariant = { λ s. (length s.functions.keys ≤ 2 ^ 32 - 1) × (length s.predicates.keys ≤ 2 ^ 32 - 1) };
+    ghost use Rattle.std.specs.List.{IsDistinct};
+    ghost use Rattle.me_terms.specs.LabelEquality.{same_symbol};
+
+    ghost invariant = { λ s. (length s.functions.keys ≤ 2 ^ 32 - 1) × (length s.predicates.keys ≤ 2 ^ 32 - 1) × IsDistinct same_symbol s.functions.keys × IsDistinct same_symbol s.predicates.keys };
 }
 
 impl Signature {
@@ -40,18 +45,20 @@ impl Signature {
         }
     }
 
-    /// The function of a number.
+    /// The function of a number, which is its only one.
     pub fn fun(&self, f: u32) -> Option<&Symbol>
         ensures item { option_copied result ≡ slice_get self.now.functions f }
         ensures found { IsSome result ↔ (f < length self.now.functions) }
+        ensures own { IfSome result (λ symbol. number_of symbol.now self.now.functions ≡ f) }
     {
         self.functions.get_index(f as usize)
     }
 
-    /// The predicate of a number.
+    /// The predicate of a number, which is its only one.
     pub fn pred(&self, p: u32) -> Option<&Symbol>
         ensures item { option_copied result ≡ slice_get self.now.predicates p }
         ensures found { IsSome result ↔ (p < length self.now.predicates) }
+        ensures own { IfSome result (λ symbol. number_of symbol.now self.now.predicates ≡ p) }
     {
         self.predicates.get_index(p as usize)
     }
@@ -96,6 +103,7 @@ fn add_to(symbols: &mut IndexSet<Symbol>, symbol: Symbol) -> Result<u32, AllocEr
     ensures number { IfOk result (λ n. n ≡ number_of symbol symbols.new.keys) }
     ensures added { OnOk result (symbols.new.keys ≡ with_symbol symbols.old.keys symbol) }
     ensures err { OnErr result (symbols.new.keys ≡ symbols.old.keys) }
+    ensures unique { IsDistinct same_symbol symbols.new.keys }
 {
     match symbols.insert_full(symbol) {
         Ok((number, _)) => Ok(number as u32),

@@ -14,4 +14,5 @@ pub mod ReadOff
 pub mod Solved
 pub mod Steps
 pub mod Visit
+pub mod Walking
 pub mod Written

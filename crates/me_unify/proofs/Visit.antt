@@ -1,6 +1,5 @@
 -- Marks as a node is opened and done.
 use Rattle.std.proofs.Common.{◌≡◌, ℕ, zero, suc, ◌+◌, ◌-◌, ◌*◌, ◌<◌, ◌≤◌, ◌≢◌, List, [], ◌∷◌, length, set, take, get_or, Some, slice_get, Vec, Global, eqb, ltb, cond, max, refl, ap, sym, subst, ◌∙◌, arith, inl, inr}
-use Rattle.std.specs.Prelude.{◌⊎◌}
 use Rattle.std.specs.List.{count_by}
 use Rattle.std.proofs.lemmas.List.{get_or-set_same, get_or-set_other, length-set, get_or-take, length-take-le}
 use Rattle.std.proofs.lemmas.List.Sums.{sum_by-set}
@@ -12,7 +11,7 @@ use Rattle.me_unify.specs.declared.links.Links.{Links}
 use Rattle.me_unify.specs.declared.node.Node.{Node}
 use Rattle.me_unify.specs.declared.node.Node.TheVariants.{Var, App}
 use Rattle.me_unify.specs.Linked.{NONE, IsForest, AreNodes, AreClosed, Colouring, coloured}
-use Rattle.me_unify.specs.Ordered.{IsBefore, LeadsTo, IsOrdered, IsKept, IsOver, HasOrder, IsSequence}
+use Rattle.me_unify.specs.Ordered.{IsBefore, LeadsTo, IsOrdered, HasOrder, IsSequence}
 
 pub white_less : (o : List ℕ) (x : ℕ) → x < length o → get_or o x 0 ≡ 0 → count_by (λ m. eqb m 0) (set o x 1) + 1 ≡ count_by (λ m. eqb m 0) o
 white_less o x h white =
@@ -34,7 +33,7 @@ less_room o x c h open_one big =
     let g = rw small at f in
     omega (arith, g)
 
-fewer_white : (o : List ℕ) (x c : ℕ) → x < length o → get_or o x 0 ≡ 1 → 2 ≤ c → count_by (λ m. eqb m 0) (set o x c) ≡ count_by (λ m. eqb m 0) o
+pub fewer_white : (o : List ℕ) (x c : ℕ) → x < length o → get_or o x 0 ≡ 1 → 2 ≤ c → count_by (λ m. eqb m 0) (set o x c) ≡ count_by (λ m. eqb m 0) o
 fewer_white o x c h open_one big =
     let e = sum_by-set (λ m. cond (eqb m 0) 1 0) o x c 0 h in
     let f = rw open_one at e in
@@ -122,37 +121,11 @@ finished nodes l o count x list q h grey leads =
       ];
     }
 
-pub kept_through : (o p : List ℕ) (x c : ℕ) → x < length o → length p ≡ length o → get_or o x 0 ≡ 0 → 2 ≤ c → IsKept (set o x 1) p → IsKept o (set p x c)
-kept_through o p x c h len white big q =
-    let lo : length (set o x 1) ≡ length o = length-set o x 1 in
-    let hp : x < length p = omega arith in
-    let here : get_or (set p x c) x 0 ≡ c = get_or-set_same p x c 0 hp in
-    let grey : get_or p x 0 ≡ 1 = q.open_ones x (omega arith) (get_or-set_same o x 1 0 h) in
-    let less = white_less o x h white in
-    let fw = fewer_white p x c hp grey big in
-    record {
-      done = λ y w b. let ne : y ≢ x = λ e. let z : get_or o y 0 ≡ get_or o x 0 = ap (λ v. get_or o v 0) e in omega (arith, z, b) in
-          let k = get_or-set_other o x y 1 0 ne in
-          get_or-set_other p x y c 0 ne ∙ (q.done y (omega arith) (rw k b) ∙ k);
-      open_ones = λ y w b. let ne : y ≢ x = λ e. let z : get_or o y 0 ≡ get_or o x 0 = ap (λ v. get_or o v 0) e in omega (arith, z, b) in
-          let k = get_or-set_other o x y 1 0 ne in
-          get_or-set_other p x y c 0 ne ∙ q.open_ones y (omega arith) (k ∙ b);
-      no_more = λ y w b. let ne : y ≢ x = λ e. let z : get_or (set p x c) y 0 ≡ get_or (set p x c) x 0 = ap (λ v. get_or (set p x c) v 0) e in omega (arith, z, b, here) in
-          let k = get_or-set_other o x y 1 0 ne in
-          sym k ∙ q.no_more y (omega arith) (sym (get_or-set_other p x y c 0 ne) ∙ b);
-      fewer = omega (arith, q.fewer, less, fw);
-    }
-
 -- ---- an argument is lower
 pub arg_lower : (h : Colouring) (xs : List ℕ) (i : ℕ) → i < length xs → height (h (get_or xs i 0)) ≤ heights (coloured h xs)
 arg_lower h [] i lt = absurd (omega arith)
 arg_lower h (x ∷ xs) zero lt = omega arith
 arg_lower h (x ∷ xs) (suc i) lt = let r = arg_lower h xs i (omega arith) in omega arith
-
-pub over_down : (l : Links) (h : Colouring) (g x y : ℕ) → ((g ≡ x) ⊎ IsOver l h g x) → height (h y) < height (h x) → IsOver l h g y
-over_down l h g x y (inl e) low = let z : height (h g) ≡ height (h x) = ap (λ w. height (h w)) e in inl (omega arith)
-over_down l h g x y (inr (inl higher)) low = inl (omega arith)
-over_down l h g x y (inr (inr level)) low = inl (omega (arith, level.0))
 
 pub app_lower : (h : Colouring) (x f : ℕ) (args : List ℕ) (i : ℕ) → h x ≡ tree.App f (coloured h args) → i < length args → height (h (get_or args i 0)) < height (h x)
 app_lower h x f args i e lt = let z : height (h x) ≡ 1 + heights (coloured h args) = ap height e in let r = arg_lower h args i lt in omega arith

@@ -7,3 +7,4 @@ pub mod Marks
 pub mod Measured
 pub mod Nodes
 pub mod Ordered
+pub mod Walked

@@ -30,12 +30,6 @@ pub record IsOrdered (nodes : List Node) (l : Links) (order : List ℕ) (count :
   pub listed : (x : ℕ) → x < length order → 2 ≤ slice_index order x → slice_index list (slice_index order x - 2) ≡ x
   pub placed : (p : ℕ) → p + 2 < count → (slice_index list p < length order) × (slice_index order (slice_index list p) ≡ p + 2)
 
-pub record IsKept (old new : List ℕ) : Type 0 where
-  pub done : (x : ℕ) → x < length old → 2 ≤ slice_index old x → slice_index new x ≡ slice_index old x
-  pub open_ones : (x : ℕ) → x < length old → slice_index old x ≡ 1 → slice_index new x ≡ 1
-  pub no_more : (x : ℕ) → x < length old → slice_index new x ≡ 1 → slice_index old x ≡ 1
-  pub fewer : count_by (λ m. eqb m 0) new ≤ count_by (λ m. eqb m 0) old
-
 -- The node's term is higher, or as high and the node is linked earlier.
 abbrev pub IsOver : Links → Colouring → ℕ → ℕ → Type 0
 IsOver l h x y =

@@ -17,6 +17,7 @@ mod order;
 mod reading;
 mod step;
 mod variable;
+mod walk;
 
 pub use bindings::Bindings;
 pub use measure::Measure;

@@ -1,5 +1,5 @@
 -- The steps of the search for the least Assert.
-use Rattle.std.proofs.Common.{◌≡◌, ℕ, ◌+◌, ◌<◌, ◌⊎◌, inl, inr, true, List, ◌∷◌, length, Option, Some, None, refl, sym, subst, ◌∙◌, arith}
+use Rattle.std.proofs.Common.{◌≡◌, ℕ, ◌+◌, ◌<◌, ◌⊎◌, inl, inr, List, ◌∷◌, length, Option, Some, None, refl, sym, subst, ◌∙◌, arith}
 use Rattle.std.specs.Prelude.{IfSome, IfNone}
 use Rattle.std.proofs.lemmas.Option.{same_Some, slice_get_within}
 use Rattle.std.proofs.lemmas.Bool.{cases_lt}
@@ -20,6 +20,7 @@ use Rattle.next_rule.specs.AssertSearches.{AssertCandidate, assert_rank, AssertR
 use Rattle.next_rule.proofs.Keys.{rank_decides, rest_decides, before_to, before_from}
 use Rattle.next_rule.proofs.Updating.{RankDecides, StandsBefore, AreBoth, updates_same, updates_none, updates_then}
 use Rattle.next_rule.proofs.Cursors.{IsCursor, Advances}
+use Rattle.next_rule.proofs.Sizes.{none_within}
 use Rattle.next_rule.proofs.Tuples.{passed_precedes, passed_still, passed_here, passed_or_here}
 
 -- ---- the two forms of the order of ranks are the same
@@ -96,16 +97,16 @@ module _ (problem : ProblemValue) (bounds : Bounds) (context : Context) where
 
   -- ---- the tuples of a place
   module _ (c place : ℕ) (clause : ClauseValue) (at_clause : ClauseAt problem c clause) where
-    has_unifier : (x : Candidate) → x.clause ≡ c → x.place ≡ place → HasUnifier context clause.literals (Some place) true x.tuple
+    has_unifier : (x : Candidate) → x.clause ≡ c → x.place ≡ place → HasUnifier context clause.literals (Some place) (Some 0) x.tuple
     has_unifier x same here =
         let f = x.holds in
         let P : ℕ → Type 0 = λ z. ClauseAt problem z f.clause in
-        let Q : ClauseValue × ℕ → Type 0 = λ z. HasUnifier context z.0.literals (Some z.1) true x.tuple in
-        subst Q (λ i. (clause_same problem c f.clause clause (subst P same f.clause_at) at_clause i, here i)) (f.family, f.unifier, λ _. f.no_remainder)
+        let Q : ClauseValue × ℕ → Type 0 = λ z. HasUnifier context z.0.literals (Some z.1) (Some 0) x.tuple in
+        subst Q (λ i. (clause_same problem c f.clause clause (subst P same f.clause_at) at_clause i, here i)) (f.family, f.unifier, none_within f.no_remainder)
 
-    tuple_both : (at : Option (List ℕ)) (next : List ℕ) → IsNextTuple context clause.literals (Some place) true at next → AreBoth {C = Candidate} entry assert_rank key (Within (AssertsPassed c place at)) (Within (AssertTuple c place next)) (Within (AssertsPassed c place (Some next)))
+    tuple_both : (at : Option (List ℕ)) (next : List ℕ) → IsNextTuple context clause.literals (Some place) (Some 0) at next → AreBoth {C = Candidate} entry assert_rank key (Within (AssertsPassed c place at)) (Within (AssertTuple c place next)) (Within (AssertsPassed c place (Some next)))
     tuple_both at next is_next = record {
-      split = λ x r. elim (passed_or_here context clause.literals (Some place) true at next x.tuple is_next (has_unifier x r.0 r.1) r.2) as (λ _. Within (AssertsPassed c place at) x ⊎ Within (AssertTuple c place next) x) [ inl p ↦ inl (r.0, r.1, p) | inr e ↦ inr (r.0, r.1, e) ];
+      split = λ x r. elim (passed_or_here context clause.literals (Some place) (Some 0) at next x.tuple is_next (has_unifier x r.0 r.1) r.2) as (λ _. Within (AssertsPassed c place at) x ⊎ Within (AssertTuple c place next) x) [ inl p ↦ inl (r.0, r.1, p) | inr e ↦ inr (r.0, r.1, e) ];
       left = λ x p. (p.0, p.1, passed_still at next x.tuple is_next.later p.2);
       right = λ x q. (q.0, q.1, passed_here next x.tuple q.2);
     }
@@ -116,23 +117,23 @@ module _ (problem : ProblemValue) (bounds : Bounds) (context : Context) where
         let a = s.0 in let b = t.0 in let d = s.1 in let f = t.1 in
         inr (omega (arith, a, b), inr (omega (arith, d, f), subst P (sym t.2) (passed_precedes at t1 next s.2 later)))
 
-    pub assert_tuple_step : (at : Option (List ℕ)) (next : List ℕ) (a b d : Option EntryValue) → IsNextTuple context clause.literals (Some place) true at next → TakesAsserts problem bounds context (AssertsPassed c place at) a b → TakesAsserts problem bounds context (AssertTuple c place next) b d → TakesAsserts problem bounds context (AssertsPassed c place (Some next)) a d
+    pub assert_tuple_step : (at : Option (List ℕ)) (next : List ℕ) (a b d : Option EntryValue) → IsNextTuple context clause.literals (Some place) (Some 0) at next → TakesAsserts problem bounds context (AssertsPassed c place at) a b → TakesAsserts problem bounds context (AssertTuple c place next) b d → TakesAsserts problem bounds context (AssertsPassed c place (Some next)) a d
     assert_tuple_step at next a b d is_next f g =
         updates_then entry assert_rank key (Within (AssertsPassed c place at)) (Within (AssertTuple c place next)) (Within (AssertsPassed c place (Some next))) decides
         (stands (AssertsPassed c place at) (AssertTuple c place next) (tuple_after at next is_next.later))
         (tuple_both at next is_next) a b d f g
 
-    pub assert_tuples_end : (at : Option (List ℕ)) (a b : Option EntryValue) → IsLastTuple context clause.literals (Some place) true at → TakesAsserts problem bounds context (AssertsPassed c place at) a b → TakesAsserts problem bounds context (AssertPlace c place) a b
+    pub assert_tuples_end : (at : Option (List ℕ)) (a b : Option EntryValue) → IsLastTuple context clause.literals (Some place) (Some 0) at → TakesAsserts problem bounds context (AssertsPassed c place at) a b → TakesAsserts problem bounds context (AssertPlace c place) a b
     assert_tuples_end at a b last h =
         updates_same entry assert_rank key (Within (AssertsPassed c place at)) (Within (AssertPlace c place)) a b (λ x r. (r.0, r.1, last x.tuple (has_unifier x r.0 r.1))) (λ x p. (p.0, p.1)) h
 
   -- ---- the loop over the tuples of a place
   -- After a look at the tuples that the cursor has passed.
   pub record AssertsSoFar (c place : ℕ) (clause : ClauseValue) (cursor : CursorValue) (best better : Option EntryValue) : Type 0 where
-    pub over : IsCursor context clause.literals (Some place) true cursor
+    pub over : IsCursor context clause.literals (Some place) (Some 0) cursor
     pub takes : TakesAsserts problem bounds context (AssertsPassed c place cursor.at) best better
 
-  pub asserts_so_far : (c place : ℕ) (clause : ClauseValue) (old new : CursorValue) (items : List ℕ) (a b d : Option EntryValue) → ClauseAt problem c clause → AssertsSoFar c place clause old a b → Advances context clause.literals (Some place) true old new → new.at ≡ Some items → TakesAsserts problem bounds context (AssertTuple c place items) b d → AssertsSoFar c place clause new a d
+  pub asserts_so_far : (c place : ℕ) (clause : ClauseValue) (old new : CursorValue) (items : List ℕ) (a b d : Option EntryValue) → ClauseAt problem c clause → AssertsSoFar c place clause old a b → Advances context clause.literals (Some place) (Some 0) old new → new.at ≡ Some items → TakesAsserts problem bounds context (AssertTuple c place items) b d → AssertsSoFar c place clause new a d
   asserts_so_far c place clause old new items a b d at_clause so_far moves shown takes =
       let P : List ℕ → Type 0 = λ z. TakesAsserts problem bounds context (AssertTuple c place z) b d in
       let Q : Option (List ℕ) → Type 0 = λ z. TakesAsserts problem bounds context (AssertsPassed c place z) a d in
@@ -141,7 +142,7 @@ module _ (problem : ProblemValue) (bounds : Bounds) (context : Context) where
         takes = subst Q (sym moves.stands) (assert_tuple_step c place clause at_clause old.at moves.tuple a b d moves.is_next so_far.takes (subst P (same_Some items moves.tuple (sym shown ∙ moves.stands)) takes));
       }
 
-  pub asserts_all : (c place : ℕ) (clause : ClauseValue) (cursor : CursorValue) (a b : Option EntryValue) → ClauseAt problem c clause → AssertsSoFar c place clause cursor a b → IsLastTuple context clause.literals (Some place) true cursor.at → TakesAsserts problem bounds context (AssertPlace c place) a b
+  pub asserts_all : (c place : ℕ) (clause : ClauseValue) (cursor : CursorValue) (a b : Option EntryValue) → ClauseAt problem c clause → AssertsSoFar c place clause cursor a b → IsLastTuple context clause.literals (Some place) (Some 0) cursor.at → TakesAsserts problem bounds context (AssertPlace c place) a b
   asserts_all c place clause cursor a b at_clause so_far last = assert_tuples_end c place clause at_clause cursor.at a b last so_far.takes
 
   pub assert_tuples_start : (c place : ℕ) (a : Option EntryValue) → TakesAsserts problem bounds context (AssertsPassed c place None) a a

@@ -1,5 +1,5 @@
 -- Tuples of one length as numbers: later tuples have greater numbers, so that few are left behind each.
-use Rattle.std.proofs.Common.{◌≡◌, ℕ, zero, suc, ◌+◌, ◌-◌, ◌*◌, ◌<◌, inl, inr, Bool, List, [], ◌∷◌, length, map, take, drop, Option, Some, None, refl, sym, subst, ap, ◌∙◌, arith, length-append}
+use Rattle.std.proofs.Common.{◌≡◌, ℕ, zero, suc, ◌+◌, ◌-◌, ◌*◌, ◌<◌, inl, inr, List, [], ◌∷◌, length, map, take, drop, Option, Some, None, refl, sym, subst, ap, ◌∙◌, arith, length-append}
 use Rattle.std.proofs.lemmas.List.{length-take, length-drop, length-map}
 use Rattle.std.specs.List.{insert}
 use Rattle.std.proofs.lemmas.Nat.{mul-add-lt}
@@ -9,7 +9,7 @@ use Rattle.me_terms.specs.Order.{Precedes}
 use Rattle.me_terms.specs.declared.atom.Literal.{Literal}
 use Rattle.me_existence.proofs.Codes.{Within}
 use Rattle.me_existence.proofs.Opposed.{tuple_within}
-use Rattle.context_unifier.specs.Enumeration.{HasUnifier, IsNextTuple}
+use Rattle.context_unifier.specs.Enumeration.{IsNextTuple}
 
 -- how many tuples of so many positions below n there are
 abbrev pub tuples : ℕ → ℕ → ℕ
@@ -79,22 +79,22 @@ abbrev pub tuples_left : ℕ → ℕ → Option (List ℕ) → ℕ
 tuples_left n width None = tuples n width + 1
 tuples_left n width (Some a) = tuples n width - code n a
 
--- a cursor stands at a tuple that has a unifier, once it has begun
-abbrev pub StandsAtOne : Context → List Literal → Option ℕ → Bool → Option (List ℕ) → Type 0
-StandsAtOne context literals skip whole None = Unit {0}
-StandsAtOne context literals skip whole (Some a) = HasUnifier context literals skip whole a
+-- a cursor stands at a tuple of visible entries of the opposite signs, once it has begun
+abbrev pub StandsAtOne : Context → List Literal → Option ℕ → Option (List ℕ) → Type 0
+StandsAtOne context literals skip None = Unit {0}
+StandsAtOne context literals skip (Some a) = AreOpposite context literals (positions_of skip a)
 
 code_within : (context : Context) (literals : List Literal) (skip : Option ℕ) (tuple : List ℕ) → AreOpposite context literals (positions_of skip tuple) → code (length context) tuple < tuples (length context) (width skip literals)
 code_within context literals skip tuple h =
     let P : ℕ → Type 0 = λ z. code (length context) tuple < tuples (length context) z in
     subst P (tuple_width context literals skip tuple h) (code_below (length context) tuple (tuple_within context literals skip tuple h))
 
-pub fewer_left : (context : Context) (literals : List Literal) (skip : Option ℕ) (whole : Bool) (at : Option (List ℕ)) (next : List ℕ) → StandsAtOne context literals skip whole at → IsNextTuple context literals skip whole at next → tuples_left (length context) (width skip literals) (Some next) < tuples_left (length context) (width skip literals) at
-fewer_left context literals skip whole None next stands is_next =
+pub fewer_left : (context : Context) (literals : List Literal) (skip most : Option ℕ) (at : Option (List ℕ)) (next : List ℕ) → StandsAtOne context literals skip at → IsNextTuple context literals skip most at next → tuples_left (length context) (width skip literals) (Some next) < tuples_left (length context) (width skip literals) at
+fewer_left context literals skip most None next stands is_next =
     let below = code_within context literals skip next is_next.unifier.1.opposite in
     omega (arith, below)
-fewer_left context literals skip whole (Some a) next stands is_next =
-    let o = stands.1.opposite in
+fewer_left context literals skip most (Some a) next stands is_next =
+    let o = stands in
     let p = is_next.unifier.1.opposite in
     let below = code_within context literals skip next p in
     let less = code_less (length context) a next (tuple_width context literals skip a o ∙ sym (tuple_width context literals skip next p)) (tuple_within context literals skip a o) (tuple_within context literals skip next p) is_next.later.0 is_next.later.1 in

@@ -7,6 +7,7 @@ pub mod Cursors
 pub mod FirstMet
 pub mod Keys
 pub mod NextSteps
+pub mod Sizes
 pub mod SplitLooks
 pub mod SplitLoops
 pub mod SplitSteps

@@ -1,5 +1,5 @@
 -- The loops of the search for the least Split: what was learned of one part after another.
-use Rattle.std.proofs.Common.{◌≡◌, ℕ, ◌+◌, ◌<◌, ◌⊎◌, inl, inr, false, List, length, Option, Some, None, sym, subst, ◌∙◌, arith}
+use Rattle.std.proofs.Common.{◌≡◌, ℕ, ◌+◌, ◌<◌, ◌⊎◌, inl, inr, List, length, Option, Some, None, sym, ap, subst, ◌∙◌, arith}
 use Rattle.std.proofs.lemmas.Option.{same_Some, slice_get_within}
 use Rattle.std.proofs.lemmas.Bool.{cases_lt}
 use Rattle.me_terms.specs.Substitutions.{Family}
@@ -14,9 +14,10 @@ use Rattle.me_terms.specs.declared.bounds.Bounds.{Bounds}
 use Rattle.me_terms.specs.declared.atom.Literal.{Literal}
 use Rattle.context_unifier.specs.Enumeration.{HasUnifier, IsNextTuple, IsLastTuple}
 use Rattle.context_unifier.specs.Cursors.{CursorValue}
-use Rattle.next_rule.specs.SplitSearches.{SplitTuple, SplitsPassed, SplitClause, SplitClauses, TakesSplits, IsFirstRemainingIn, MeetsFirst, Looks, IsSplitResult}
+use Rattle.next_rule.specs.SplitSearches.{size_limit, SplitTuple, SplitsPassed, SplitClause, SplitClauses, TakesSplits, IsFirstRemainingIn, MeetsFirst, Looks, IsSplitResult}
+use Rattle.next_rule.specs.declared.split_state.SplitCandidate.{SplitCandidate}
 use Rattle.next_rule.specs.declared.split_state.SplitState.{SplitState}
-use Rattle.next_rule.proofs.Cursors.{IsCursor, Advances}
+use Rattle.next_rule.proofs.Cursors.{IsCursor, Advances, limited}
 use Rattle.next_rule.proofs.Tuples.{passed_precedes, passed_still, passed_here, passed_or_here}
 use Rattle.next_rule.proofs.SplitSteps.{clause_of, split_tuple_step, split_tuples_end, split_tuples_start, split_clauses_start, split_clause_step, split_none, split_some, none_before}
 use Rattle.next_rule.proofs.FirstMet.{InTurn, meets_none, meets_same, meets_then}
@@ -24,19 +25,19 @@ use Rattle.next_rule.proofs.FirstMet.{InTurn, meets_none, meets_same, meets_then
 module _ (problem : ProblemValue) (bounds : Bounds) (context : Context) where
   -- After a look at the tuples of a clause that the cursor has passed.
   pub record SplitsSoFar (c : ℕ) (clause : ClauseValue) (cursor : CursorValue) (first state : SplitState) : Type 0 where
-    pub over : IsCursor context clause.literals None false cursor
+    pub over : IsCursor context clause.literals None (size_limit state.best) cursor
     pub looks : Looks problem bounds context (SplitsPassed c cursor.at) first state
 
   -- ---- the tuples of a clause
   module _ (c : ℕ) (clause : ClauseValue) (at_clause : ClauseAt problem c clause) where
-    productive_at : (c' : ℕ) (tuple : List ℕ) (other : ClauseValue) (f : Family) → c' ≡ c → IsProductiveUnifier problem context c' tuple other f → HasUnifier context clause.literals None false tuple
+    productive_at : (c' : ℕ) (tuple : List ℕ) (other : ClauseValue) (f : Family) → c' ≡ c → IsProductiveUnifier problem context c' tuple other f → HasUnifier context clause.literals None None tuple
     productive_at c' tuple other f same p =
-        let Q : ClauseValue → Type 0 = λ z. HasUnifier context z.literals None false tuple in
-        subst Q (clause_of problem bounds context c clause at_clause c' other same p.clause_at) (f, p.unifier, λ never. cc never)
+        let Q : ClauseValue → Type 0 = λ z. HasUnifier context z.literals None None tuple in
+        subst Q (clause_of problem bounds context c clause at_clause c' other same p.clause_at) (f, p.unifier, tt)
 
-    tuple_turn : (at : Option (List ℕ)) (next : List ℕ) → IsNextTuple context clause.literals None false at next → InTurn problem bounds context (SplitsPassed c at) (SplitTuple c next) (SplitsPassed c (Some next))
+    tuple_turn : (at : Option (List ℕ)) (next : List ℕ) → IsNextTuple context clause.literals None None at next → InTurn problem bounds context (SplitsPassed c at) (SplitTuple c next) (SplitsPassed c (Some next))
     tuple_turn at next is_next = record {
-      split = λ c' tuple other f r p. elim (passed_or_here context clause.literals None false at next tuple is_next (productive_at c' tuple other f r.0 p) r.1) as (λ _. SplitsPassed c at c' tuple ⊎ SplitTuple c next c' tuple) [ inl h ↦ inl (r.0, h) | inr e ↦ inr (r.0, e) ];
+      split = λ c' tuple other f r p. elim (passed_or_here context clause.literals None None at next tuple is_next (productive_at c' tuple other f r.0 p) r.1) as (λ _. SplitsPassed c at c' tuple ⊎ SplitTuple c next c' tuple) [ inl h ↦ inl (r.0, h) | inr e ↦ inr (r.0, e) ];
       left = λ c' tuple s. (s.0, passed_still at next tuple is_next.later s.1);
       right = λ c' tuple t. (t.0, passed_here next tuple t.1);
       before = λ c1 c2 tuple1 tuple2 s t.
@@ -45,28 +46,34 @@ module _ (problem : ProblemValue) (bounds : Bounds) (context : Context) where
           inr (omega (arith, a, b), subst P (sym t.1) (passed_precedes at tuple1 next s.1 is_next.later));
     }
 
-    looks_then : (at : Option (List ℕ)) (next : List ℕ) (a b d : SplitState) → IsNextTuple context clause.literals None false at next → Looks problem bounds context (SplitsPassed c at) a b → Looks problem bounds context (SplitTuple c next) b d → Looks problem bounds context (SplitsPassed c (Some next)) a d
+    looks_then : (at : Option (List ℕ)) (next : List ℕ) (a b d : SplitState) → IsNextTuple context clause.literals None (size_limit b.best) at next → Looks problem bounds context (SplitsPassed c at) a b → Looks problem bounds context (SplitTuple c next) b d → Looks problem bounds context (SplitsPassed c (Some next)) a d
     looks_then at next a b d is_next f g = record {
       takes = split_tuple_step problem bounds context c clause at_clause at next a.best b.best d.best is_next f.takes g.takes;
-      meets = λ e. meets_then problem bounds context (SplitsPassed c at) (SplitTuple c next) (SplitsPassed c (Some next)) (tuple_turn at next is_next) a.met b.met d.met (f.meets (none_before problem bounds context (SplitTuple c next) b.best d.best g.takes e)) (g.meets e);
+      meets = λ e.
+          let none = none_before problem bounds context (SplitTuple c next) b.best d.best g.takes e in
+          let P : Option SplitCandidate → Type 0 = λ z. IsNextTuple context clause.literals None (size_limit z) at next in
+          meets_then problem bounds context (SplitsPassed c at) (SplitTuple c next) (SplitsPassed c (Some next)) (tuple_turn at next (subst P none is_next)) a.met b.met d.met (f.meets none) (g.meets e);
     }
 
-    pub splits_so_far : (old new : CursorValue) (items : List ℕ) (a b d : SplitState) → SplitsSoFar c clause old a b → Advances context clause.literals None false old new → new.at ≡ Some items → Looks problem bounds context (SplitTuple c items) b d → SplitsSoFar c clause new a d
-    splits_so_far old new items a b d so_far moves shown looks =
+    pub splits_so_far : (old moved new : CursorValue) (items : List ℕ) (a b d : SplitState) → SplitsSoFar c clause old a b → Advances context clause.literals None (size_limit b.best) old moved → moved.at ≡ Some items → Looks problem bounds context (SplitTuple c items) b d → new ≡ record moved { most = size_limit d.best } → SplitsSoFar c clause new a d
+    splits_so_far old moved new items a b d so_far moves shown looks e =
         let P : List ℕ → Type 0 = λ z. Looks problem bounds context (SplitTuple c z) b d in
         let Q : Option (List ℕ) → Type 0 = λ z. Looks problem bounds context (SplitsPassed c z) a d in
+        let still : new.at ≡ moved.at = ap (λ (z : CursorValue). z.at) e in
         record {
-          over = moves.over;
-          looks = subst Q (sym moves.stands) (looks_then old.at moves.tuple a b d moves.is_next so_far.looks (subst P (same_Some items moves.tuple (sym shown ∙ moves.stands)) looks));
+          over = limited context clause.literals None (size_limit b.best) moved new (size_limit d.best) moves.over e;
+          looks = subst Q (sym (still ∙ moves.stands)) (looks_then old.at moves.tuple a b d moves.is_next so_far.looks (subst P (same_Some items moves.tuple (sym shown ∙ moves.stands)) looks));
         }
 
-    pub splits_all : (cursor : CursorValue) (a b : SplitState) → SplitsSoFar c clause cursor a b → IsLastTuple context clause.literals None false cursor.at → Looks problem bounds context (SplitClause c) a b
+    pub splits_all : (cursor : CursorValue) (a b : SplitState) → SplitsSoFar c clause cursor a b → IsLastTuple context clause.literals None (size_limit b.best) cursor.at → Looks problem bounds context (SplitClause c) a b
     splits_all cursor a b so_far last = record {
       takes = split_tuples_end problem bounds context c clause at_clause cursor.at a.best b.best last so_far.looks.takes;
-      meets = λ e. meets_same problem bounds context (SplitsPassed c cursor.at) (SplitClause c) a.met b.met (λ c' tuple other f r p. (r, last tuple (productive_at c' tuple other f r p))) (λ c' tuple s. s.0) (so_far.looks.meets e);
+      meets = λ e.
+          let P : Option SplitCandidate → Type 0 = λ z. IsLastTuple context clause.literals None (size_limit z) cursor.at in
+          meets_same problem bounds context (SplitsPassed c cursor.at) (SplitClause c) a.met b.met (λ c' tuple other f r p. (r, subst P e last tuple (productive_at c' tuple other f r p))) (λ c' tuple s. s.0) (so_far.looks.meets e);
     }
 
-    pub splits_begin : (cursor : CursorValue) (a : SplitState) → IsCursor context clause.literals None false cursor → cursor.at ≡ None → SplitsSoFar c clause cursor a a
+    pub splits_begin : (cursor : CursorValue) (a : SplitState) → IsCursor context clause.literals None (size_limit a.best) cursor → cursor.at ≡ None → SplitsSoFar c clause cursor a a
     splits_begin cursor a over e =
         let Q : Option (List ℕ) → Type 0 = λ z. Looks problem bounds context (SplitsPassed c z) a a in
         record {

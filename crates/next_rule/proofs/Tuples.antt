@@ -1,5 +1,5 @@
 -- How far a cursor has come: what it passed, what is next, and what is left.
-use Rattle.std.proofs.Common.{◌≡◌, ℕ, ◌⊎◌, inl, inr, Bool, List, Option, Some, None, sym, subst}
+use Rattle.std.proofs.Common.{◌≡◌, ℕ, ◌⊎◌, inl, inr, List, Option, Some, None, sym, subst}
 use Rattle.me_terms.specs.Order.{Precedes}
 use Rattle.me_terms.specs.Context.{Context}
 use Rattle.me_terms.specs.declared.atom.Literal.{Literal}
@@ -47,9 +47,9 @@ passed_still at next tuple later passed again = again.1 (precedes_antisymmetric 
 pub passed_here : (next tuple : List ℕ) → tuple ≡ next → ¬ IsLater (Some next) tuple
 passed_here next tuple e again = again.1 e
 
-module _ (context : Context) (literals : List Literal) (skip : Option ℕ) (whole : Bool) where
+module _ (context : Context) (literals : List Literal) (skip most : Option ℕ) where
   -- where a cursor has gone to the next tuple, it has passed what it had, and that tuple
-  pub passed_or_here : (at : Option (List ℕ)) (next tuple : List ℕ) → IsNextTuple context literals skip whole at next → HasUnifier context literals skip whole tuple → ¬ IsLater (Some next) tuple → (¬ IsLater at tuple) ⊎ (tuple ≡ next)
+  pub passed_or_here : (at : Option (List ℕ)) (next tuple : List ℕ) → IsNextTuple context literals skip most at next → HasUnifier context literals skip most tuple → ¬ IsLater (Some next) tuple → (¬ IsLater at tuple) ⊎ (tuple ≡ next)
   passed_or_here at next tuple is_next has passed =
       elim (later_decided at tuple) as (λ _. (¬ IsLater at tuple) ⊎ (tuple ≡ next)) [
         | inl later ↦ inr (precedes_antisymmetric tuple next (not_later next tuple passed) (is_next.least tuple has later))

@@ -40,6 +40,11 @@ abbrev pub IsSmaller : ℕ → ℕ → Option SplitCandidate → Type 0
 IsSmaller size weight None = ⊤
 IsSmaller size weight (Some best) = (size < best.size) ⊎ ((size ≡ best.size) × (weight < best.weight))
 
+-- What comes before the best candidate so far has a remainder no larger than its; where there is none, any has.
+abbrev pub size_limit : Option SplitCandidate → Option ℕ
+size_limit None = None
+size_limit (Some best) = Some best.size
+
 -- Some clauses and tuples.
 abbrev pub SplitRegion : Type 1
 SplitRegion = ℕ → List ℕ → Type 0

@@ -61,7 +61,13 @@ impl<'a, V: View> Search<'a, V> {
         requires bounds { IsLawful self.now.bounds.now }
         ensures { IfOk result (λ better. TakesAsserts self.now.problem.now self.now.bounds.now (V.context self.now.view.now) (AssertPlace index place) best better) }
     {
-        let mut cursor = Cursor::new(self.alloc, &clause.literals, Some(place), true, self.view);
+        let mut cursor = Cursor::new(
+            self.alloc,
+            &clause.literals,
+            Some(place),
+            Some(0),
+            self.view,
+        );
         while cursor.advance()? {
             best = self.assert_at(clause, index, place, cursor.tuple(), best)?;
         }

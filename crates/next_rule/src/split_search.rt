@@ -143,7 +143,8 @@ impl<'a, V: View> Search<'a, V> {
         }
     }
 
-    /// The state after all tuples of the clause.
+    /// The state after all tuples of the clause. A tuple with a larger remainder than the best literal's is
+    /// left at the first positions that show it.
     fn splits_of_clause(
         &self,
         clause: &Clause,
@@ -156,9 +157,10 @@ impl<'a, V: View> Search<'a, V> {
         requires few { length clause.now.literals < 2 ^ 32 - 1 }
         ensures { IfOk result (λ new. Looks self.now.problem.now self.now.bounds.now (V.context self.now.view.now) (SplitClause index) state new) }
     {
-        let mut cursor = Cursor::new(self.alloc, &clause.literals, None, false, self.view);
+        let mut cursor = Cursor::new(self.alloc, &clause.literals, None, state.most(), self.view);
         while cursor.advance()? {
             state = self.look_at(clause, index, cursor.tuple(), state)?;
+            cursor.limit(state.most())?;
         }
         Ok(state)
     }

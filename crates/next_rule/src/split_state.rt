@@ -2,7 +2,7 @@
 ghost use Rattle.std.specs.Prelude.{◌≡◌, ◌⊎◌, IsSome, IsTrue, ◌↔◌};
 ghost use Rattle.me_terms.specs.Next as step;
 ghost use Rattle.me_terms.specs.AnswerViews.{next_value};
-ghost use Rattle.next_rule.specs.SplitSearches.{IsSmaller};
+ghost use Rattle.next_rule.specs.SplitSearches.{IsSmaller, size_limit};
 
 use me_terms::{Bound, Kind, Literal, Next};
 
@@ -45,6 +45,16 @@ impl SplitState {
         match &self.best {
             Some(best) => size < best.size || (size == best.size && weight < best.weight),
             None => true,
+        }
+    }
+
+    /// The most places that the remainder of a better literal may have, if there is a literal.
+    pub(crate) fn most(&self) -> Option<u64>
+        ensures { result ≡ size_limit self.now.best }
+    {
+        match &self.best {
+            Some(best) => Some(best.size),
+            None => None,
         }
     }
 

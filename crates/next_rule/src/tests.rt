@@ -23,7 +23,7 @@ fn label(alloc: Global, byte: u8) -> Result<Label, AllocError> {
     })
 }
 
-/// A constant a, and a predicate p of one argument.
+/// A constant a, a function f and a predicate p of one argument.
 fn signature(alloc: Global) -> Result<Signature, AllocError> {
     let mut signature = Signature::new(alloc);
     let constant = Symbol {
@@ -31,6 +31,11 @@ fn signature(alloc: Global) -> Result<Signature, AllocError> {
         arity: 0,
     };
     signature.add_fun(constant)?;
+    let function = Symbol {
+        label: label(alloc, b'f')?,
+        arity: 1,
+    };
+    signature.add_fun(function)?;
     let predicate = Symbol {
         label: label(alloc, b'p')?,
         arity: 1,
@@ -56,6 +61,15 @@ fn constant(alloc: Global) -> Term {
         f: 0,
         args: Terms::new(alloc),
     }
+}
+
+/// f(a)
+fn deep(alloc: Global) -> Result<Term, AllocError> {
+    let mut args = Terms::new(alloc);
+    let Ok(()) = args.push(constant(alloc)) else {
+        return Err(AllocError);
+    };
+    Ok(Term::App { f: 1, args })
 }
 
 fn add(literals: &mut Literals, literal: Literal) -> Result<(), AllocError> {
@@ -94,6 +108,13 @@ fn problem(alloc: Global, first: Literals, second: Literals) -> Result<Problem, 
 fn of_constant(alloc: Global) -> Result<Literals, AllocError> {
     let mut literals = Literals::new(alloc);
     add(&mut literals, literal(alloc, true, constant(alloc))?)?;
+    Ok(literals)
+}
+
+/// p(f(a))
+fn of_deep(alloc: Global) -> Result<Literals, AllocError> {
+    let mut literals = Literals::new(alloc);
+    add(&mut literals, literal(alloc, true, deep(alloc)?)?)?;
     Ok(literals)
 }
 
@@ -190,6 +211,37 @@ fn all_is_too_heavy(rt: HostRuntime) -> Result<(), Fail> {
             }
         )
     );
+    Ok(())
+}
+
+/// p(f(a)) is too deep and too heavy.
+#[test]
+fn depth_is_named_before_weight(rt: HostRuntime) -> Result<(), Fail> {
+    let alloc = rt.alloc();
+    let units = problem(alloc, of_deep(alloc)?, negative(alloc)?)?;
+    let next = step(alloc, &units, &bounds(1, 9))?;
+    assert!(rt;
+        matches!(
+            &next,
+            Next::Bounded {
+                bound: Bound::Depth
+            }
+        )
+    );
+    Ok(())
+}
+
+/// Only ~p(X) | ~p(X), which all atoms being false makes true. It is not asserted, since there are two.
+#[test]
+fn nothing_is_left(rt: HostRuntime) -> Result<(), Fail> {
+    let alloc = rt.alloc();
+    let mut twice = negative(alloc)?;
+    add(&mut twice, literal(alloc, false, Term::Var(0))?)?;
+    let mut again = negative(alloc)?;
+    add(&mut again, literal(alloc, false, Term::Var(0))?)?;
+    let models = problem(alloc, twice, again)?;
+    let next = step(alloc, &models, &bounds(9, 9))?;
+    assert!(rt; matches!(&next, Next::Exhausted));
     Ok(())
 }
 

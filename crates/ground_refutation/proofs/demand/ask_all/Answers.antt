@@ -1,5 +1,5 @@
-use Rattle.std.proofs.Common.{◌≡◌, ◌++◌, ◌<◌, ◌≤◌, length, min, arith}
-use Rattle.ground_refutation.proofs.Loops.{asked_more, all_asked}
+use Rattle.std.proofs.Common.{◌≤◌, length, min, arith}
+use Rattle.ground_refutation.proofs.Loops.{all_asked}
 use Rattle.ground_refutation.proofs.demand.ask_all.Goals as goal
 
 pub returns : goal.returns

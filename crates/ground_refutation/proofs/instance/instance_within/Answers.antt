@@ -1,4 +1,4 @@
-use Rattle.std.proofs.Common.{◌≡◌, ℕ, List, Option, IsNone, refl, sym, subst, ap, ◌∙◌}
+use Rattle.std.proofs.Common.{ℕ, List, Option, IsNone, refl, sym, subst, ap, ◌∙◌}
 use Rattle.me_terms.specs.Measures.{literals_weight}
 use Rattle.me_terms.specs.declared.atom.Literal.{Literal}
 use Rattle.me_unify.specs.Equations.{Equation, IsMostGeneral}

@@ -1,4 +1,4 @@
-use Rattle.std.proofs.Common.{◌≡◌, List, sym, subst, ◌∙◌, arith}
+use Rattle.std.proofs.Common.{List, sym, subst, ◌∙◌, arith}
 use Rattle.me_unify.specs.Equations.{Equation, IsMostGeneral}
 use Rattle.ground_refutation.proofs.Loops.{counted_more, counted_over}
 use Rattle.ground_refutation.proofs.instance.weight_within.Goals as goal

@@ -1,13 +1,11 @@
-use Rattle.std.proofs.Common.{◌≡◌, ◌+◌, ◌<◌, ◌++◌, ◌∷◌, [], List, Some, IfErr, false, rules, refl, sym, subst, ap, ◌∙◌}
+use Rattle.std.proofs.Common.{◌≡◌, ◌+◌, ◌<◌, ◌++◌, ◌∷◌, List, IfErr, false, rules, refl, sym, subst, ◌∙◌}
 use Rattle.std.specs.List.{list_any}
 use Rattle.indexmap.specs.IndexSet.{insert_key}
 use Rattle.me_terms.specs.Values.{InstanceValue}
-use Rattle.me_terms.specs.Positions.{positions_of}
 use Rattle.me_terms.specs.FirstOccurrences.{same_instance}
 use Rattle.me_terms.specs.LeafList.{Demand, demands}
-use Rattle.me_terms.specs.Measures.{literals_weight, list_weight}
-use Rattle.me_terms.specs.declared.atom.Literal.{Literal}
-use Rattle.ground_refutation.specs.Queue.{same_demand, Completes, IsListing, IsUnderway, IsAskedFor}
+use Rattle.me_terms.specs.Measures.{list_weight}
+use Rattle.ground_refutation.specs.Queue.{same_demand, Completes, IsListing, IsUnderway}
 use Rattle.ground_refutation.specs.Work.{longest, work, work_all}
 use Rattle.instance_lists.specs.declared.error.ListError.{ListError}
 use Rattle.instance_lists.specs.declared.error.ListError.TheVariants.{TooHeavy}

@@ -1,4 +1,4 @@
-use Rattle.std.proofs.Common.{◌≡◌, ◌+◌, ◌<◌, ◌++◌, ◌∷◌, [], List, IfErr, rules, sym, subst, ap, ◌∙◌, arith}
+use Rattle.std.proofs.Common.{◌≡◌, ◌+◌, ◌<◌, ◌++◌, [], List, IfErr, rules, sym, subst, ap, ◌∙◌, arith}
 use Rattle.indexmap.specs.IndexSet.{insert_key}
 use Rattle.me_terms.specs.Values.{InstanceValue}
 use Rattle.me_terms.specs.FirstOccurrences.{same_instance}
@@ -8,7 +8,7 @@ use Rattle.me_terms.specs.declared.atom.Literal.{Literal}
 use Rattle.me_laws.proofs.Lists.{EachOf}
 use Rattle.me_laws.proofs.OutcomeDetermined.{closing_unique}
 use Rattle.me_refutation.proofs.Demands.{IsRight}
-use Rattle.ground_refutation.specs.Queue.{Completes, IsUnderway}
+use Rattle.ground_refutation.specs.Queue.{Completes}
 use Rattle.instance_lists.specs.declared.error.ListError.{ListError}
 use Rattle.instance_lists.specs.declared.error.ListError.TheVariants.{TooHeavy}
 use Rattle.ground_refutation.proofs.Answering.{begins, closing_rights, closing_too_heavy}

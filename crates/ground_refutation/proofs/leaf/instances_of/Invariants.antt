@@ -1,4 +1,4 @@
-use Rattle.std.proofs.Common.{◌≡◌, List}
+use Rattle.std.proofs.Common.{List}
 use Rattle.me_terms.specs.Values.{InstanceValue}
 use Rattle.me_terms.specs.LeafList.{IsLeafList}
 use Rattle.ground_refutation.specs.Queue.{Completes, IsUnderway}

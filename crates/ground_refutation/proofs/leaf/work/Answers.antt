@@ -1,4 +1,4 @@
-use Rattle.std.proofs.Common.{◌≡◌, ℕ, inl, inr, List, Option, None, IsNone, refl, sym, subst}
+use Rattle.std.proofs.Common.{inl, inr, refl, sym}
 use Rattle.ground_refutation.proofs.Steps.{was_asked, passed}
 use Rattle.ground_refutation.proofs.leaf.work.Goals as goal
 

@@ -1,6 +1,5 @@
-use Rattle.std.proofs.Common.{◌≡◌, ◌++◌, ◌<◌, ◌≤◌, length, min, arith}
-use Rattle.me_unify.specs.ClauseEquations.{equations_from}
-use Rattle.ground_refutation.proofs.Loops.{still_solvable, all_bound, bound_more}
+use Rattle.std.proofs.Common.{◌<◌, ◌≤◌, length, min, arith}
+use Rattle.ground_refutation.proofs.Loops.{still_solvable, all_bound}
 use Rattle.ground_refutation.proofs.places.bind_all.Goals as goal
 
 pub bind-requires-clause-solvable : goal.bind-requires-clause-solvable

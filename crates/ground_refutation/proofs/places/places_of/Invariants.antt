@@ -1,4 +1,4 @@
-use Rattle.std.proofs.Common.{◌≡◌, ◌++◌, drop, map, Option, Some, ℕ}
+use Rattle.std.proofs.Common.{◌≡◌, ◌++◌, drop, map, Some, ℕ}
 use Rattle.ground_refutation.proofs.places.places_of.Given as goal
 
 -- What is copied and what is left are the tuple's positions.

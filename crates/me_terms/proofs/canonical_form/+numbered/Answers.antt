@@ -1,6 +1,5 @@
-use Rattle.std.proofs.Common.{◌≡◌, ◌+◌, ◌*◌, ◌<◌, sym, ap, ◌∙◌, arith}
+use Rattle.std.proofs.Common.{sym, arith}
 use Rattle.me_terms.specs.TermViews.{term_value}
-use Rattle.me_terms.specs.Terms.{height, App}
 use Rattle.me_terms.proofs.Numbered.{height_in, names_step, made_step, made_all, names_all}
 use Rattle.me_terms.proofs.canonical_form.+numbered.Goals as goal
 

@@ -1,10 +1,10 @@
-use Rattle.std.proofs.Common.{◌≢◌, ℕ, ◌<◌, ◌≤◌, length, get_or}
-use Rattle.me_unify.specs.Ordered.{IsOrdered}
+use Rattle.std.proofs.Common.{◌≡◌, ℕ, [], ◌<◌, ◌≤◌, get_or}
+use Rattle.me_unify.specs.Walked.{IsWalk}
 use Rattle.me_unify.proofs.links.Links.ordered.Given as goal
 
 abbrev pub invariant-loop-x : goal.invariant-loop-x
 invariant-loop-x l = record {
-  ordered : IsOrdered l.nodes l.self l.order.items l.count l.list.items;
-  done : (y : ℕ) → y < l.x → 2 ≤ get_or l.order.items y 0;
-  none_open : (y : ℕ) → y < length l.nodes → get_or l.order.items y 0 ≢ 1;
+  walk : IsWalk l.nodes l.self l.walk;
+  none : l.walk.stack.items ≡ [];
+  seen : (y : ℕ) → y < l.x → 1 ≤ get_or l.walk.order.items y 0;
 }
