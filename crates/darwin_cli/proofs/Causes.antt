@@ -3,9 +3,7 @@ use Rattle.std.proofs.Common.{◌≡◌, ◌⊎◌, inl, inr, ℕ, ◌+◌, ◌<
 use Rattle.std.proofs.lemmas.List.{append-nil}
 use Rattle.std.proofs.lemmas.Option.{same_Some}
 use Rattle.std.specs.Prelude.{IfOk, IfErr, IfSome}
-use Rattle.std.specs.Global.{Global}
 use Rattle.std.specs.Io.KnownBytes.{Consumes, IsAtEnd}
-use Rattle.std.specs.declared.string.String.{String}
 use Rattle.me_io.specs.Source.{Rose, GaveFront}
 use Rattle.me_terms.specs.Values.{ProblemValue}
 use Rattle.tptp_grammar.specs.declared.refusal.Refusal.{Refusal as FileRefusal}
@@ -13,13 +11,11 @@ use Rattle.tptp_grammar.specs.declared.refusal.Refusal.TheVariants as file
 use Rattle.tptp_cnf.specs.Files.{IsFile}
 use Rattle.tptp_cnf.specs.Causes.{RefusedAt}
 use Rattle.tptp_cnf.proofs.Causal.{one_cause, refused_is_no_file}
-use Rattle.me_terms.specs.AnswerViews.{answer_value}
-use Rattle.me_terms.specs.declared.answer.Answer.{Answer}
-use Rattle.szs_print.specs.AnswerText.{IsAnswerText}
 use Rattle.szs_print.specs.declared.refusal.Refusal.{Refusal}
 use Rattle.szs_print.specs.declared.refusal.Refusal.TheVariants.{Usage, Syntax, Inappropriate, Limit, Length, Read, Memory}
-use Rattle.darwin_cli.specs.AcceptedWords.{name_of, AreAccepted, shown_name}
-use Rattle.darwin_cli.specs.Outcome.{IsSure, IsFileCause, GaveAll, GaveTooMany, IsFileRefused, IsCause, IsAnswered, status_of}
+use Rattle.darwin_cli.specs.Outcome.{IsFileCause, GaveAll, GaveTooMany, IsAskedFor, IsTextFor, IsFileRefused, IsCause, IsAnswered, status_of}
+use Rattle.darwin_cli.specs.Replies.{IsAnswerTo, IsSummaryOf}
+use Rattle.darwin_options.specs.declared.options.Options.{Options}
 
 -- ---- what stands in the bytes
 
@@ -64,11 +60,6 @@ pub if_ok : {T E : Type 0} (r : Result T E) (P Q : T → Type 0) → ((x : T) �
 if_ok (Ok x) P Q f h = f x h
 if_ok (Err e) P Q f h = tt
 
--- the text is that of an answer to the problem that the bytes mean
-abbrev pub IsSolvedAs : List ℕ → List ℕ → List ℕ → Type 0
-IsSolvedAs bytes name text =
-    (problem : ProblemValue) × (answer : Answer) × IsFile bytes problem × IsSure problem (answer_value answer) × IsAnswerText name problem answer text
-
 -- ---- what a source gave
 
 -- what is consumed to the end is all
@@ -84,94 +75,114 @@ all_given None new bytes given given' whole end front = tt
 all_given (Some xs) None bytes given given' whole end front = front.gone
 all_given (Some xs) (Some ys) bytes given given' whole end front = sym whole ∙ sym (append-nil bytes) ∙ ap (λ (zs : List ℕ). bytes ++ zs) (sym end)
 
-module _ {S : Type 0} (left : S → Option (List ℕ)) (given : S → ℕ) (ended : S → Type 0) (faults : S → ℕ) (words : List (String Global)) (old new : S) where
+module _ {S : Type 0} (left : S → Option (List ℕ)) (given : S → ℕ) (ended : S → Type 0) (faults : S → ℕ) (options : Options) (old new : S) where
   -- a source that tells its bytes gave up no others
-  same_bytes : (bytes other : List ℕ) → left old ≡ Some bytes → GaveAll left given ended faults words old new other → other ≡ bytes
+  same_bytes : (bytes other : List ℕ) → left old ≡ Some bytes → GaveAll left given ended faults options old new other → other ≡ bytes
   same_bytes bytes other told all = all_consumed (left old) (left new) bytes other told all.none_left all.gone
 
   -- few bytes are not too many
-  not_too_many : (bytes : List ℕ) → left old ≡ Some bytes → length bytes ≤ 67108864 → GaveTooMany left given ended faults words old new → ⊥
+  not_too_many : (bytes : List ℕ) → left old ≡ Some bytes → length bytes ≤ 67108864 → GaveTooMany left given ended faults options old new → ⊥
   not_too_many bytes told few many =
       let P : Option (List ℕ) → Type 0 = λ o. IfSome o (λ xs. 67108864 < length xs) in
       let long : 67108864 < length bytes = subst P told many.told in
       absurd (omega (arith, few))
 
   -- a source that tells its bytes is refused for what stands in these
-  refused_for : (bytes : List ℕ) (r : Refusal) → left old ≡ Some bytes → IsFileRefused left given ended faults words old new r → IsFileCause bytes r
+  refused_for : (bytes : List ℕ) (r : Refusal) → left old ≡ Some bytes → IsFileRefused left given ended faults options old new r → IsFileCause bytes r
   refused_for bytes r told cause =
       let P : List ℕ → Type 0 = λ xs. IsFileCause xs r in
       subst P (same_bytes bytes cause.1.0 told cause.1.1) cause.1.2
 
   -- with bytes that are refused for what stands in them
-  pub refused_status : (bytes : List ℕ) (due r : Refusal) → AreAccepted words → left old ≡ Some bytes → length bytes ≤ 67108864 → IsFileCause bytes due → IsCause left given ended faults words old new r → (status_of r ≡ status_of due) ⊎ (5 ≤ status_of r)
-  refused_status bytes due Usage accepted told few is cause = absurd (cause accepted)
-  refused_status bytes due (Syntax at) accepted told few is cause = inl (same_status bytes (Syntax at) due (refused_for bytes (Syntax at) told cause) is)
-  refused_status bytes due (Inappropriate what at) accepted told few is cause = inl (same_status bytes (Inappropriate what at) due (refused_for bytes (Inappropriate what at) told cause) is)
-  refused_status bytes due (Limit which at) accepted told few is cause = inl (same_status bytes (Limit which at) due (refused_for bytes (Limit which at) told cause) is)
-  refused_status bytes due Length accepted told few is cause = absurd (not_too_many bytes told few cause.1)
-  refused_status bytes due Read accepted told few is cause = inr (omega arith)
-  refused_status bytes due Memory accepted told few is cause = inr (omega arith)
+  pub refused_status : (bytes : List ℕ) (due r : Refusal) → left old ≡ Some bytes → length bytes ≤ 67108864 → IsFileCause bytes due → IsCause left given ended faults options old new r → (status_of r ≡ status_of due) ⊎ (5 ≤ status_of r)
+  refused_status bytes due Usage told few is cause = absurd cause
+  refused_status bytes due (Syntax at) told few is cause = inl (same_status bytes (Syntax at) due (refused_for bytes (Syntax at) told cause) is)
+  refused_status bytes due (Inappropriate what at) told few is cause = inl (same_status bytes (Inappropriate what at) due (refused_for bytes (Inappropriate what at) told cause) is)
+  refused_status bytes due (Limit which at) told few is cause = inl (same_status bytes (Limit which at) due (refused_for bytes (Limit which at) told cause) is)
+  refused_status bytes due Length told few is cause = absurd (not_too_many bytes told few cause.1)
+  refused_status bytes due Read told few is cause = inr (omega arith)
+  refused_status bytes due Memory told few is cause = inr (omega arith)
 
   -- with a file whose problem is solved
-  pub file_status : (bytes : List ℕ) (problem : ProblemValue) (r : Refusal) → AreAccepted words → left old ≡ Some bytes → length bytes ≤ 67108864 → IsFile bytes problem → IsCause left given ended faults words old new r → (status_of r ≡ 0) ⊎ (5 ≤ status_of r)
-  file_status bytes problem Usage accepted told few means cause = absurd (cause accepted)
-  file_status bytes problem (Syntax at) accepted told few means cause = absurd (not_refused bytes problem (Syntax at) means (refused_for bytes (Syntax at) told cause))
-  file_status bytes problem (Inappropriate what at) accepted told few means cause = absurd (not_refused bytes problem (Inappropriate what at) means (refused_for bytes (Inappropriate what at) told cause))
-  file_status bytes problem (Limit which at) accepted told few means cause = absurd (not_refused bytes problem (Limit which at) means (refused_for bytes (Limit which at) told cause))
-  file_status bytes problem Length accepted told few means cause = absurd (not_too_many bytes told few cause.1)
-  file_status bytes problem Read accepted told few means cause = inr (omega arith)
-  file_status bytes problem Memory accepted told few means cause = inr (omega arith)
+  pub file_status : (bytes : List ℕ) (problem : ProblemValue) (r : Refusal) → left old ≡ Some bytes → length bytes ≤ 67108864 → IsFile bytes problem → IsCause left given ended faults options old new r → (status_of r ≡ 0) ⊎ (5 ≤ status_of r)
+  file_status bytes problem Usage told few means cause = absurd cause
+  file_status bytes problem (Syntax at) told few means cause = absurd (not_refused bytes problem (Syntax at) means (refused_for bytes (Syntax at) told cause))
+  file_status bytes problem (Inappropriate what at) told few means cause = absurd (not_refused bytes problem (Inappropriate what at) means (refused_for bytes (Inappropriate what at) told cause))
+  file_status bytes problem (Limit which at) told few means cause = absurd (not_refused bytes problem (Limit which at) means (refused_for bytes (Limit which at) told cause))
+  file_status bytes problem Length told few means cause = absurd (not_too_many bytes told few cause.1)
+  file_status bytes problem Read told few means cause = inr (omega arith)
+  file_status bytes problem Memory told few means cause = inr (omega arith)
 
   -- with such a file, and no fault
-  pub complete_status : (bytes : List ℕ) (problem : ProblemValue) (r : Refusal) → AreAccepted words → left old ≡ Some bytes → length bytes ≤ 67108864 → IsFile bytes problem → (Rose (faults old) (faults new) → ⊥) → IsCause left given ended faults words old new r → (status_of r ≡ 0) ⊎ (status_of r ≡ 7)
-  complete_status bytes problem Usage accepted told few means quiet cause = absurd (cause accepted)
-  complete_status bytes problem (Syntax at) accepted told few means quiet cause = absurd (not_refused bytes problem (Syntax at) means (refused_for bytes (Syntax at) told cause))
-  complete_status bytes problem (Inappropriate what at) accepted told few means quiet cause = absurd (not_refused bytes problem (Inappropriate what at) means (refused_for bytes (Inappropriate what at) told cause))
-  complete_status bytes problem (Limit which at) accepted told few means quiet cause = absurd (not_refused bytes problem (Limit which at) means (refused_for bytes (Limit which at) told cause))
-  complete_status bytes problem Length accepted told few means quiet cause = absurd (not_too_many bytes told few cause.1)
-  complete_status bytes problem Read accepted told few means quiet cause = absurd (quiet cause.1)
-  complete_status bytes problem Memory accepted told few means quiet cause = inr refl
+  pub complete_status : (bytes : List ℕ) (problem : ProblemValue) (r : Refusal) → left old ≡ Some bytes → length bytes ≤ 67108864 → IsFile bytes problem → (Rose (faults old) (faults new) → ⊥) → IsCause left given ended faults options old new r → (status_of r ≡ 0) ⊎ (status_of r ≡ 7)
+  complete_status bytes problem Usage told few means quiet cause = absurd cause
+  complete_status bytes problem (Syntax at) told few means quiet cause = absurd (not_refused bytes problem (Syntax at) means (refused_for bytes (Syntax at) told cause))
+  complete_status bytes problem (Inappropriate what at) told few means quiet cause = absurd (not_refused bytes problem (Inappropriate what at) means (refused_for bytes (Inappropriate what at) told cause))
+  complete_status bytes problem (Limit which at) told few means quiet cause = absurd (not_refused bytes problem (Limit which at) means (refused_for bytes (Limit which at) told cause))
+  complete_status bytes problem Length told few means quiet cause = absurd (not_too_many bytes told few cause.1)
+  complete_status bytes problem Read told few means quiet cause = absurd (quiet cause.1)
+  complete_status bytes problem Memory told few means quiet cause = inr refl
+
+  -- without a seed, the problem that is asked for is a file's
+  asked_of_file : (problem : ProblemValue) → options.make ≡ None → IsAskedFor left given ended faults options old new options.make problem → (bytes : List ℕ) × GaveAll left given ended faults options old new bytes × IsFile bytes problem
+  asked_of_file problem unmade asked =
+      let P : Option ℕ → Type 0 = λ make. IsAskedFor left given ended faults options old new make problem in
+      subst P unmade asked
 
   -- an answer was given, so the bytes are not refused for what stands in them
-  pub answered_is_not_refused : (bytes text : List ℕ) (due : Refusal) → left old ≡ Some bytes → IsAnswered left given ended faults words old new text → IsFileCause bytes due → ⊥
-  answered_is_not_refused bytes text due told answered is =
+  pub answered_is_not_refused : (bytes text : List ℕ) (due : Refusal) → options.make ≡ None → left old ≡ Some bytes → IsAnswered left given ended faults options old new text → IsFileCause bytes due → ⊥
+  answered_is_not_refused bytes text due unmade told answered is =
+      let asked = asked_of_file answered.problem unmade answered.asked in
       let P : List ℕ → Type 0 = λ xs. IsFile xs answered.problem in
-      not_refused bytes answered.problem due (subst P (same_bytes bytes answered.bytes told answered.all) answered.means) is
+      not_refused bytes answered.problem due (subst P (same_bytes bytes asked.0 told asked.1) asked.2) is
 
   -- a source that was read to its end gave up all its bytes
-  pub read_gave_all : (bytes : List ℕ) → IfSome (left old) (λ xs. bytes ≡ xs) → IsAtEnd (left new) → GaveFront (left old) (left new) (given old) (given new) → given new ≡ given old + length bytes → ended new → length bytes ≤ 67108864 → GaveAll left given ended faults words old new bytes
+  pub read_gave_all : (bytes : List ℕ) → IfSome (left old) (λ xs. bytes ≡ xs) → IsAtEnd (left new) → GaveFront (left old) (left new) (given old) (given new) → given new ≡ given old + length bytes → ended new → length bytes ≤ 67108864 → GaveAll left given ended faults options old new bytes
   read_gave_all bytes whole end front counted at_end few =
       record { gone = all_given (left old) (left new) bytes (given old) (given new) whole end front; counted = counted; end = at_end; none_left = end; few = few }
 
-  of_file : (bytes : List ℕ) (r : Refusal) → AreAccepted words → GaveAll left given ended faults words old new bytes → IsFileCause bytes r → IsCause left given ended faults words old new r
-  of_file bytes Usage accepted all cause = absurd cause
-  of_file bytes (Syntax at) accepted all cause = (accepted, (bytes, all, cause))
-  of_file bytes (Inappropriate what at) accepted all cause = (accepted, (bytes, all, cause))
-  of_file bytes (Limit which at) accepted all cause = (accepted, (bytes, all, cause))
-  of_file bytes Length accepted all cause = absurd cause
-  of_file bytes Read accepted all cause = absurd cause
-  of_file bytes Memory accepted all cause = absurd cause
+  of_file : (bytes : List ℕ) (r : Refusal) → options.make ≡ None → GaveAll left given ended faults options old new bytes → IsFileCause bytes r → IsCause left given ended faults options old new r
+  of_file bytes Usage unmade all cause = absurd cause
+  of_file bytes (Syntax at) unmade all cause = (unmade, (bytes, all, cause))
+  of_file bytes (Inappropriate what at) unmade all cause = (unmade, (bytes, all, cause))
+  of_file bytes (Limit which at) unmade all cause = (unmade, (bytes, all, cause))
+  of_file bytes Length unmade all cause = absurd cause
+  of_file bytes Read unmade all cause = absurd cause
+  of_file bytes Memory unmade all cause = absurd cause
 
-  solved_cause : (bytes : List ℕ) (r : Refusal) → AreAccepted words → GaveAll left given ended faults words old new bytes → (r ≡ Memory) ⊎ IsFileCause bytes r → IsCause left given ended faults words old new r
-  solved_cause bytes r accepted all (inl e) =
-      let P : Refusal → Type 0 = λ x. IsCause left given ended faults words old new x in
-      subst P (sym e) accepted
-  solved_cause bytes r accepted all (inr cause) = of_file bytes r accepted all cause
+  solved_cause : (bytes : List ℕ) (r : Refusal) → options.make ≡ None → GaveAll left given ended faults options old new bytes → (r ≡ Memory) ⊎ IsFileCause bytes r → IsCause left given ended faults options old new r
+  solved_cause bytes r unmade all (inl e) =
+      let P : Refusal → Type 0 = λ x. IsCause left given ended faults options old new x in
+      subst P (sym e) tt
+  solved_cause bytes r unmade all (inr cause) = of_file bytes r unmade all cause
 
   -- what refuses bytes that were read to their end has its cause
-  pub cause_of_solved : {T : Type 0} (bytes : List ℕ) (result : Result T Refusal) → AreAccepted words → GaveAll left given ended faults words old new bytes → IfErr result (λ r. (r ≡ Memory) ⊎ IsFileCause bytes r) → IfErr result (IsCause left given ended faults words old new)
-  cause_of_solved bytes (Ok text) accepted all either = tt
-  cause_of_solved bytes (Err r) accepted all either = solved_cause bytes r accepted all either
+  pub cause_of_solved : {T : Type 0} (bytes : List ℕ) (result : Result T Refusal) → options.make ≡ None → GaveAll left given ended faults options old new bytes → IfErr result (λ r. (r ≡ Memory) ⊎ IsFileCause bytes r) → IfErr result (IsCause left given ended faults options old new)
+  cause_of_solved bytes (Ok text) unmade all either = tt
+  cause_of_solved bytes (Err r) unmade all either = solved_cause bytes r unmade all either
 
   -- the text of an answer to the problem that the bytes mean
-  pub answered_of_solved : (bytes name text : List ℕ) → AreAccepted words → GaveAll left given ended faults words old new bytes → name_of words ≡ Some name → IsSolvedAs bytes name text → IsAnswered left given ended faults words old new text
-  answered_of_solved bytes name text accepted all named solved = record {
-    accepted = accepted;
-    bytes = bytes;
-    problem = solved.0;
-    answer = solved.1;
-    all = all;
-    means = solved.2;
-    sure = solved.3;
-    text_is = subst (λ (n : List ℕ). IsAnswerText n solved.0 solved.1 text) (sym (ap shown_name named)) solved.4;
-  }
+  pub answered_of_solved : (bytes text : List ℕ) → options.make ≡ None → GaveAll left given ended faults options old new bytes → IsAnswerTo options bytes text → IsAnswered left given ended faults options old new text
+  answered_of_solved bytes text unmade all solved =
+      let Asked : Option ℕ → Type 0 = λ make. IsAskedFor left given ended faults options old new make solved.0 in
+      let Told : Option ℕ → Type 0 = λ make. IsTextFor make options.name.items solved.0 solved.1 text in
+      record {
+        problem = solved.0;
+        answer = solved.1;
+        asked = subst Asked (sym unmade) (bytes, all, solved.2);
+        sure = solved.3;
+        text_is = subst Told (sym unmade) solved.4;
+      }
+
+  -- the summary of an answer to a made problem
+  pub answered_of_made : (seed : ℕ) (text : List ℕ) → options.make ≡ Some seed → new ≡ old → IsSummaryOf options seed text → IsAnswered left given ended faults options old new text
+  answered_of_made seed text seeded same solved =
+      let Asked : Option ℕ → Type 0 = λ make. IsAskedFor left given ended faults options old new make solved.0 in
+      let Told : Option ℕ → Type 0 = λ make. IsTextFor make options.name.items solved.0 solved.1 text in
+      record {
+        problem = solved.0;
+        answer = solved.1;
+        asked = subst Asked (sym seeded) (same, solved.2);
+        sure = solved.3;
+        text_is = subst Told (sym seeded) solved.4;
+      }

@@ -1,8 +1,6 @@
--- What the program owes to what it is given: which refusals have their cause, and which answers are true of the file.
-use Rattle.std.specs.Prelude.{◌≡◌, ◌⊎◌, ◌+◌, ◌<◌, ◌≤◌, ℕ, false, List, length, Option, IfSome}
-use Rattle.std.specs.Global.{Global}
+-- What the program owes to the options of a call and to what it is given: which refusals have their cause, and which answers are true of the problem.
+use Rattle.std.specs.Prelude.{◌≡◌, ◌⊎◌, ◌+◌, ◌<◌, ◌≤◌, ℕ, false, List, length, Option, Some, None, IfSome}
 use Rattle.std.specs.Io.KnownBytes.{Consumes, IsAtEnd, Appends}
-use Rattle.std.specs.declared.string.String.{String}
 use Rattle.me_io.specs.Source.{Rose}
 use Rattle.me_terms.specs.Values.{ProblemValue}
 use Rattle.me_terms.specs.Answer.{AnswerValue, HasAnswer}
@@ -16,22 +14,20 @@ use Rattle.tptp_cnf.specs.Files.{IsFile}
 use Rattle.tptp_cnf.specs.Causes.{RefusedAt}
 use Rattle.tptp_cnf.specs.declared.error.CnfError.{CnfError}
 use Rattle.tptp_cnf.specs.declared.error.CnfError.TheVariants as error
+use Rattle.make_problem.specs.Made.{IsMade}
+use Rattle.darwin_options.specs.declared.options.Options.{Options}
 use Rattle.szs_print.specs.AnswerText.{IsAnswerText}
+use Rattle.szs_print.specs.SummaryText.{IsSummary}
 use Rattle.szs_print.specs.RefusalText.{refusal_text}
 use Rattle.szs_print.specs.declared.refusal.Refusal.{Refusal}
 use Rattle.szs_print.specs.declared.refusal.Refusal.TheVariants.{Usage, Syntax, Inappropriate, Limit, Length, Read, Memory}
-use Rattle.darwin_cli.specs.AcceptedWords.{AreAccepted, name_shown}
-
--- The bounds within which the program searches.
-abbrev pub default_bounds : Bounds
-default_bounds = record { depth = 6; weight = 1000; literals = 2000; list = 10000000 }
 
 -- The answer to the problem within these bounds, with what makes it sure: a list of ground instances of the clauses that no choice of truth values makes true, or a context that makes every ground instance of every clause true; and where there are no functions with arguments and the bounds are wide, no bound but that of the list is met.
-pub record IsSure (problem : ProblemValue) (reply : AnswerValue) : Type 0 where
-  pub is_answer : HasAnswer problem default_bounds false reply
-  pub refuted : HasRefutation problem default_bounds reply
+pub record IsSure (problem : ProblemValue) (bounds : Bounds) (reply : AnswerValue) : Type 0 where
+  pub is_answer : HasAnswer problem bounds false reply
+  pub refuted : HasRefutation problem bounds reply
   pub model : HasModel problem reply
-  pub function_free : IsFunctionFree problem → IsRoomy problem default_bounds → MeetsOnlyList reply
+  pub function_free : IsFunctionFree problem → IsRoomy problem bounds → MeetsOnlyList reply
 
 -- The bytes are refused for what stands in them.
 abbrev pub IsFileCause : List ℕ → Refusal → Type 0
@@ -60,8 +56,13 @@ status_of Length = 4
 status_of Read = 5
 status_of Memory = 7
 
--- The first four say what is known of a source: the bytes left in it, how many it gave so far, that its end was reached, and its count of faults. The source was old before the call with these words, and new after it.
-module _ {S : Type 0} (left : S → Option (List ℕ)) (given : S → ℕ) (ended : S → Type 0) (faults : S → ℕ) (words : List (String Global)) (old new : S) where
+-- The text is that of the answer to a file's problem, and the summary of the answer to one that is made of a seed.
+abbrev pub IsTextFor : Option ℕ → List ℕ → ProblemValue → Answer → List ℕ → Type 0
+IsTextFor None name problem answer text = IsAnswerText name problem answer text
+IsTextFor (Some seed) name problem answer text = IsSummary name problem answer text
+
+-- The first four say what is known of a source: the bytes left in it, how many it gave so far, that its end was reached, and its count of faults. The source was old before the call with these options, and new after it.
+module _ {S : Type 0} (left : S → Option (List ℕ)) (given : S → ℕ) (ended : S → Type 0) (faults : S → ℕ) (options : Options) (old new : S) where
   -- The source gave up these bytes, which are not too many and all up to its end: where it tells its bytes, none is left.
   pub record GaveAll (bytes : List ℕ) : Type 0 where
     pub gone : Consumes (left old) (left new) bytes
@@ -75,36 +76,38 @@ module _ {S : Type 0} (left : S → Option (List ℕ)) (given : S → ℕ) (ende
     pub counted : given old + 67108864 < given new
     pub told : IfSome (left old) (λ bytes. 67108864 < length bytes)
 
+  -- The problem that is asked for: that which the bytes of the source mean, or where there is a seed that which is made of it, with 30 predicates and 100 clauses, and then the source is left alone.
+  abbrev pub IsAskedFor : Option ℕ → ProblemValue → Type 0
+  IsAskedFor None problem = (bytes : List ℕ) × GaveAll bytes × IsFile bytes problem
+  IsAskedFor (Some seed) problem = (new ≡ old) × IsMade seed 30 100 problem
+
   -- The bytes of the source were read to their end, and are refused for what stands in them.
   abbrev pub IsFileRefused : Refusal → Type 0
-  IsFileRefused refusal = AreAccepted words × ((bytes : List ℕ) × GaveAll bytes × IsFileCause bytes refusal)
+  IsFileRefused refusal = (options.make ≡ None) × ((bytes : List ℕ) × GaveAll bytes × IsFileCause bytes refusal)
 
-  -- The refusal has its cause.
+  -- The refusal has its cause. Options are no words, so they are never refused.
   abbrev pub IsCause : Refusal → Type 0
-  IsCause Usage = ¬ AreAccepted words
+  IsCause Usage = ⊥
   IsCause (Syntax at) = IsFileRefused (Syntax at)
   IsCause (Inappropriate what at) = IsFileRefused (Inappropriate what at)
   IsCause (Limit which at) = IsFileRefused (Limit which at)
-  IsCause Length = AreAccepted words × GaveTooMany
-  IsCause Read = AreAccepted words × Rose (faults old) (faults new)
-  IsCause Memory = AreAccepted words
+  IsCause Length = (options.make ≡ None) × GaveTooMany
+  IsCause Read = (options.make ≡ None) × Rose (faults old) (faults new)
+  IsCause Memory = Unit {0}
 
-  -- The text is that of an answer over the problem that the bytes of the source mean.
+  -- The text is that of an answer over the problem that is asked for, within the bounds of the options.
   pub record IsAnswered (text : List ℕ) : Type 0 where
-    pub accepted : AreAccepted words
-    pub bytes : List ℕ
     pub problem : ProblemValue
     pub answer : Answer
-    pub all : GaveAll bytes
-    pub means : IsFile bytes problem
-    pub sure : IsSure problem (answer_value answer)
-    pub text_is : IsAnswerText (name_shown words) problem answer text
+    pub asked : IsAskedFor options.make problem
+    pub sure : IsSure problem options.bounds (answer_value answer)
+    pub text_is : IsTextFor options.make options.name.items problem answer text
 
   -- A refusal of this status has its cause, and its text was written to a sink, which held these bytes before and those after it.
   abbrev pub IsRefused : ℕ → (held held' : Option (List ℕ)) → Type 0
   IsRefused status held held' =
-      (refusal : Refusal) × (status ≡ status_of refusal) × IsCause refusal × Appends held held' (refusal_text (name_shown words) refusal)
+      (refusal : Refusal) × (status ≡ status_of refusal) × IsCause refusal × Appends held held' (refusal_text options.name.items refusal)
 
   -- The text is due: that of an answer, or that of a refusal with its cause.
   abbrev pub IsDue : List ℕ → Type 0
-  IsDue text = IsAnswered text ⊎ ((refusal : Refusal) × IsCause refusal × (text ≡ refusal_text (name_shown words) refusal))
+  IsDue text = IsAnswered text ⊎ ((refusal : Refusal) × IsCause refusal × (text ≡ refusal_text options.name.items refusal))

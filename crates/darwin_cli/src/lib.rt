@@ -1,13 +1,13 @@
 //! The program from its words to its status.
 //!
-//! `run` reads the words, then the source, then the problem, solves it, and writes what it found. Each
-//! status but 7 has its cause, and what was written is known.
+//! `run` reads the words, and `run_alone` goes on from their options: it reads the source or makes a
+//! problem, solves it, and writes what it found. Each status but 7 has its cause, and what was written is known.
 #![tactic(auto)]
 
+mod answer;
 mod top;
-mod words;
 
-pub use top::run;
+pub use top::{run, run_alone};
 
 #[cfg(test)]
 mod tests;

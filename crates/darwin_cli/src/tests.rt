@@ -247,14 +247,33 @@ fn words_may_name_the_problem(rt: HostRuntime) -> Result<(), Fail> {
 }
 
 #[test]
+fn options_bound_the_search(rt: HostRuntime) -> Result<(), Fail> {
+    let alloc = rt.alloc();
+    let (status, written) = ran(alloc, &["darwin", "--depth", "3"], EVER_DEEPER)?;
+    assert_eq!(rt; status, 0);
+    assert_eq!(rt; written.as_slice(), TOO_DEEP.as_bytes());
+    Ok(())
+}
+
+#[test]
 fn other_words_are_refused(rt: HostRuntime) -> Result<(), Fail> {
     let alloc = rt.alloc();
     let expected = "% SZS status UsageError for stdin\n% reason words\n";
-    for option in ["--name=x", "--name", "x"] {
+    for option in ["--depth=65", "x"] {
         let (status, written) = ran(alloc, &["darwin", option], "")?;
         assert_eq!(rt; status, 1);
         assert_eq!(rt; written.as_slice(), expected.as_bytes());
     }
+    Ok(())
+}
+
+#[test]
+fn a_made_problem_has_one_answer(rt: HostRuntime) -> Result<(), Fail> {
+    let alloc = rt.alloc();
+    let (status, alone) = ran(alloc, &["darwin", "--make", "7", "--workers", "1"], "")?;
+    assert_eq!(rt; status, 0);
+    let (_status, together) = ran(alloc, &["darwin", "--make", "7", "--workers", "8"], "")?;
+    assert_eq!(rt; alone.as_slice(), together.as_slice());
     Ok(())
 }
 

@@ -6,3 +6,4 @@ pub mod Printable
 pub mod RefusalText
 pub mod RefutationText
 pub mod StatusText
+pub mod SummaryText

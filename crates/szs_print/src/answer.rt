@@ -2,7 +2,7 @@
 //!
 //! A refutation is printed as its list of instances, a model as the visible entries of its context, and
 //! where the search gave up, the bound that it met.
-ghost use Rattle.std.specs.Prelude.{◌≡◌, IfOk};
+ghost use Rattle.std.specs.Prelude.{◌≡◌, ◌++◌, OnOk, IfOk};
 ghost use Rattle.szs_print.specs.AnswerText.{gave_up_text, IsAnswerText};
 ghost use Rattle.szs_print.specs.Printable.{IsName, IsPrintable};
 
@@ -12,18 +12,25 @@ use crate::status::{push_reason, push_status};
 use me_terms::{Answer, Bound, Problem, Text};
 use std::alloc::{AllocError, Global};
 
+/// Puts the text for a search that gave up at the bound at the end.
+pub(crate) fn push_gave_up(out: &mut Vec<u8>, name: &[u8], bound: Bound) -> Result<(), AllocError>
+    ensures { OnOk result (out.new.items ≡ out.old.items ++ gave_up_text name.now bound) }
+{
+    push_status(out, b"GaveUp", name)?;
+    match bound {
+        Bound::Depth => push_reason(out, b"depth"),
+        Bound::Weight => push_reason(out, b"weight"),
+        Bound::Literals => push_reason(out, b"literals"),
+        Bound::List => push_reason(out, b"list"),
+    }
+}
+
 /// The text for a search that gave up at the bound.
 fn print_gave_up(alloc: Global, name: &[u8], bound: Bound) -> Result<Vec<u8>, AllocError>
     ensures { IfOk result (λ text. text.items ≡ gave_up_text name.now bound) }
 {
     let mut out = Vec::new(alloc);
-    push_status(&mut out, b"GaveUp", name)?;
-    match bound {
-        Bound::Depth => push_reason(&mut out, b"depth")?,
-        Bound::Weight => push_reason(&mut out, b"weight")?,
-        Bound::Literals => push_reason(&mut out, b"literals")?,
-        Bound::List => push_reason(&mut out, b"list")?,
-    }
+    push_gave_up(&mut out, name, bound)?;
     Ok(out)
 }
 

@@ -1,7 +1,7 @@
 //! The texts that the prover writes.
 //!
-//! `print_answer` gives the text of an answer, byte for byte, and `write_refusal` writes that of a refusal
-//! with no memory. The texts are defined in `specs/`.
+//! `print_answer` gives the text of an answer, byte for byte, `print_summary` one that tells its size, and
+//! `write_refusal` writes that of a refusal with no memory. The texts are defined in `specs/`.
 #![tactic(auto)]
 
 mod answer;
@@ -9,9 +9,11 @@ mod model;
 mod refusal;
 mod refutation;
 mod status;
+mod summary;
 
 pub use answer::print_answer;
 pub use refusal::{Refusal, write_refusal};
+pub use summary::print_summary;
 
 #[cfg(test)]
 mod tests;

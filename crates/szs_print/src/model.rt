@@ -23,7 +23,7 @@ fn covers(entry: &Entry, positive: bool, atom: &Atom) -> bool
 }
 
 /// Whether one of the later entries hides a literal of this sign and atom.
-fn is_covered(later: &[Entry], positive: bool, atom: &Atom) -> bool
+pub(crate) fn is_covered(later: &[Entry], positive: bool, atom: &Atom) -> bool
     ensures { IsTrue result ↔ ((j : ℕ) × (entry : EntryValue) × (slice_get later.now j ≡ Some entry) × Covers positive atom.now entry) }
 {
     for entry in later {

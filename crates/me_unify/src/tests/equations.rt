@@ -1,5 +1,5 @@
 //! Equations one after another: what they come to, what is refused, and what is taken back.
-use super::{atom, reads, unify, unify_alone};
+use super::{reads, unify, unify_alone};
 use crate::Bindings;
 use std::test::Fail;
 

@@ -1,0 +1,4 @@
+pub mod AcceptedWords
+pub mod OptionsCommand
+pub mod Ranges
+pub mod Settings

@@ -1,0 +1,18 @@
+//! The options of a call, read from its words.
+//!
+//! `read_words` accepts exactly the words that `specs/AcceptedWords` defines, and gives the options that
+//! they ask for, each in its range.
+#![tactic(auto)]
+
+mod command;
+mod error;
+mod options;
+mod values;
+mod words;
+
+pub use error::WordsError;
+pub use options::Options;
+pub use words::read_words;
+
+#[cfg(test)]
+mod tests;
