@@ -6,7 +6,12 @@ use me_unify::Bindings;
 use std::alloc::{AllocError, Global};
 
 /// How many of that many unifications of the pair succeed. Where the shape is doubling both atoms have the same variables.
-pub(crate) fn unified(alloc: Global, shape: Shape, size: u32, times: u32) -> Result<u64, AllocError> {
+pub(crate) fn unified(
+    alloc: Global,
+    shape: Shape,
+    size: u32,
+    times: u32,
+) -> Result<u64, AllocError> {
     let left = general(alloc, shape, size)?;
     let right = special(alloc, shape, size)?;
     let mut bindings = Bindings::new(alloc);
@@ -21,7 +26,12 @@ pub(crate) fn unified(alloc: Global, shape: Shape, size: u32, times: u32) -> Res
 }
 
 /// How many of that many matches of the pair succeed.
-pub(crate) fn matched(alloc: Global, shape: Shape, size: u32, times: u32) -> Result<u64, AllocError> {
+pub(crate) fn matched(
+    alloc: Global,
+    shape: Shape,
+    size: u32,
+    times: u32,
+) -> Result<u64, AllocError> {
     let left = general(alloc, shape, size)?;
     let right = special(alloc, shape, size)?;
     let mut count = 0_u64;
