@@ -1,5 +1,6 @@
 -- The steps of a cursor over the tuples of a clause.
 use Rattle.std.proofs.Common.{◌≡◌, ℕ, ◌<◌, Bool, List, length, Option, Some, None, refl, sym, subst, ap, ◌∙◌}
+use Rattle.std.proofs.lemmas.Option.{same_Some}
 use Rattle.me_terms.specs.Context.{Context}
 use Rattle.me_terms.specs.declared.atom.Literal.{Literal}
 use Rattle.context_unifier.specs.Enumeration.{IsNextTuple, IsLastTuple}
@@ -54,6 +55,17 @@ module _ (context : Context) (literals : List Literal) (skip : Option ℕ) (whol
           stands_at_one = subst P (sym stands) next.unifier;
         };
       }
+
+  -- the first tuple to which a new cursor goes
+  pub first_of : (cursor next : CursorValue) (written : List Literal) → cursor ≡ cursor_at context written skip whole None → written ≡ literals → IsAdvanced cursor next → (t : List ℕ) → next.at ≡ Some t → IsNextTuple context literals skip whole None t
+  first_of cursor next written e same found t at =
+      let over = cursor_begun cursor written e same in
+      let moves = advances cursor next over found in
+      let first : IsNextTuple context literals skip whole cursor.at moves.tuple = moves.is_next in
+      let is : moves.tuple ≡ t = same_Some moves.tuple t (sym moves.stands ∙ at) in
+      let none : cursor.at ≡ None = ap (λ (z : CursorValue). z.at) e in
+      let P : Option (List ℕ) × List ℕ → Type 0 = λ z. IsNextTuple context literals skip whole z.0 z.1 in
+      subst P (λ i. (none i, is i)) first
 
   pub no_more : (cursor : CursorValue) → IsCursor context literals skip whole cursor → IsAtEnd cursor → IsLastTuple context literals skip whole cursor.at
   no_more cursor over h = let P : CursorValue → Type 0 = λ z. IsAtEnd z in subst P over.same h
