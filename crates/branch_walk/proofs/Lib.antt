@@ -1,0 +1,14 @@
+mod Back
+mod Descents
+mod Ends
+mod LeftRight
+mod NodeKeys
+mod Places
+mod Reasons
+mod Spines
+mod Subtrees
+mod TreesAt
+mod TreesBelow
+mod TurnsTaken
+mod Waiting
+mod Work
