@@ -1,0 +1,12 @@
+//! The walk of a portion of the search tree.
+//!
+//! A portion is what one worker walks of the tree below a path. Its record lists what was found there, from
+//! left to right, with a place for each right child that was given away.
+#![tactic(auto)]
+
+mod entries;
+mod job;
+mod tally;
+
+pub use job::Job;
+pub use next_rule::next_step;
