@@ -1,0 +1,4 @@
+pub mod JoinedRuns
+pub mod ListedLists
+pub mod Survivors
+pub mod Tallied
