@@ -6,6 +6,7 @@
 
 mod entries;
 mod job;
+mod listing;
 mod tally;
 
 pub use job::Job;
