@@ -1,5 +1,5 @@
 -- Pieces that are joined, among others: what is joined stays so with more on either side, and one joining follows another.
-use Rattle.std.proofs.Common.{◌≡◌, ℕ, List, [], ◌∷◌, ◌++◌, sym, subst, append_assoc}
+use Rattle.std.proofs.Common.{ℕ, List, [], ◌∷◌, ◌++◌, sym, subst, append_assoc}
 use Rattle.me_terms.specs.Context.{Context}
 use Rattle.branch_core.specs.Paths.{Turns}
 use Rattle.branch_core.specs.Pieces.{Piece, Sat, Cut, NoMemory}

@@ -1,5 +1,5 @@
 -- Lists within the list bound, and those that are joined.
-use Rattle.std.proofs.Common.{◌≡◌, ℕ, ◌<◌, ◌≤◌, true, false, inl, inr, List, ◌∷◌, ◌++◌, sym, subst, ap, ◌∙◌, arith, nat_le}
+use Rattle.std.proofs.Common.{◌≡◌, ℕ, ◌<◌, ◌≤◌, true, false, inl, inr, List, ◌∷◌, sym, subst, ap, ◌∙◌, arith, nat_le}
 use Rattle.std.proofs.lemmas.Bool.Decides.{leb_tells}
 use Rattle.me_terms.specs.Measures.{list_weight}
 use Rattle.me_terms.specs.Values.{ProblemValue, InstanceValue}
@@ -11,7 +11,7 @@ use Rattle.me_terms.specs.Outcome.{TreeOutcome, HasOutcome, closes}
 use Rattle.me_terms.specs.Outcome as outcome
 use Rattle.me_terms.specs.declared.bounds.Bounds.{Bounds}
 use Rattle.me_laws.proofs.OutcomeDetermined.{outcome_unique}
-use Rattle.branch_core.specs.Parts.{ListedValue, Whole, TooHeavy, listed}
+use Rattle.branch_core.specs.Parts.{Whole, TooHeavy, listed}
 use Rattle.branch_core.specs.SearchTree.{EachOnce}
 use Rattle.branch_core.proofs.GatheredLists.{le_true}
 use Rattle.instance_lists.proofs.FirstOccurrences.{first-again, weight-left, weight-right}

@@ -1,5 +1,5 @@
 -- What is still there when pieces were joined: their gifts, and their exhausted leaf where there is one alone.
-use Rattle.std.proofs.Common.{◌≡◌, ℕ, zero, suc, ◌≤◌, ◌+◌, List, [], ◌∷◌, ◌++◌, length, ◌⊎◌, inl, inr, slice_get, Some, refl, sym, subst, ap, ◌∙◌, arith, append_assoc, length-append}
+use Rattle.std.proofs.Common.{◌≡◌, ℕ, zero, suc, ◌≤◌, List, [], ◌∷◌, ◌++◌, length, inl, inr, slice_get, Some, refl, subst, ap, ◌∙◌, arith, length-append}
 use Rattle.std.proofs.lemmas.Option.{same_Some}
 use Rattle.me_terms.specs.Context.{Context}
 use Rattle.branch_core.specs.Paths.{Turns, key}

@@ -1,5 +1,5 @@
 -- How a tally grows: its last piece takes in what follows, or stays behind a new one.
-use Rattle.std.proofs.Common.{◌≡◌, ℕ, Bool, true, false, ◌<◌, List, [], ◌∷◌, ◌++◌, map, Option, Some, None, refl, sym, subst, ap, ◌∙◌, arith, nat_le, append_assoc, append-nil}
+use Rattle.std.proofs.Common.{◌≡◌, ℕ, true, false, List, [], ◌∷◌, ◌++◌, map, Option, Some, None, refl, sym, subst, ap, ◌∙◌, append-nil}
 use Rattle.me_terms.specs.Context.{Context}
 use Rattle.me_terms.specs.Values.{EntryValue, InstanceValue}
 use Rattle.me_terms.specs.Sequences.{SequenceValue}
@@ -10,7 +10,7 @@ use Rattle.branch_core.specs.Parts.{PartValue, ListedValue, listed}
 use Rattle.branch_core.specs.Parts as value
 use Rattle.branch_core.specs.PartViews.{part_value, listed_value}
 use Rattle.branch_core.specs.Pieces.{Piece, Closed, Bounded, Sat, Gift, Cut, NoMemory}
-use Rattle.branch_core.specs.Joined.{Joins, Joined, as_they_are, join, closed_closed, closed_bounded, bounded_closed, bounded_bounded, closed_sat, bounded_sat, sat_takes, takes_later, takes_earlier, cut_cut}
+use Rattle.branch_core.specs.Joined.{Joins, Joined, as_they_are, join, closed_closed, closed_bounded, bounded_closed, bounded_bounded, closed_sat, bounded_sat, takes_later, takes_earlier}
 use Rattle.branch_core.specs.StandsFor.{part_of}
 use Rattle.branch_core.specs.SearchTree.{EachOnce}
 use Rattle.branch_core.specs.declared.part.Part.{Part}

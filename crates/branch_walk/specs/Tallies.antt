@@ -1,8 +1,5 @@
 -- Tallies: what a walk has found so far, with neighbours joined.
 use Rattle.std.specs.Prelude.{◌≡◌, ◌+◌, ◌≤◌, ℕ, Bool, true, false, List, [], ◌∷◌, ◌++◌, map, length, Option, Some, None}
-use Rattle.me_terms.specs.Values.{InstanceValue}
-use Rattle.me_terms.specs.Context.{Context}
-use Rattle.me_terms.specs.declared.bounds.Bound.{Bound}
 use Rattle.branch_core.specs.Paths.{Turns}
 use Rattle.branch_core.specs.PartViews.{part_value}
 use Rattle.branch_core.specs.Pieces.{Piece}

@@ -1,6 +1,5 @@
 use Rattle.std.proofs.Common.{[], ◌∷◌, refl, sym, ◌∙◌}
 use Rattle.branch_core.specs.Pieces.{Bounded}
-use Rattle.branch_core.specs.declared.part.Part.TheVariants as part
 use Rattle.branch_walk.proofs.Tallied.{grows, keeps_bound, takes_bound}
 use Rattle.branch_walk.proofs.tally.Tally.add_bound.Goals as goal
 

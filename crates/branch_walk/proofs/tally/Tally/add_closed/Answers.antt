@@ -3,7 +3,7 @@ use Rattle.me_terms.specs.Values.{InstanceValue}
 use Rattle.me_terms.specs.FirstOccurrences.{joined}
 use Rattle.branch_core.specs.Parts.{listed}
 use Rattle.branch_core.specs.PartViews.{listed_value}
-use Rattle.branch_core.specs.Pieces.{Piece, Closed}
+use Rattle.branch_core.specs.Pieces.{Closed}
 use Rattle.branch_core.specs.declared.part.Part.{Part}
 use Rattle.branch_core.specs.declared.part.Part.TheVariants as part
 use Rattle.branch_core.specs.declared.part.Listed.TheVariants as list

@@ -1,5 +1,4 @@
 use Rattle.std.proofs.Common.{[], map, refl, ap}
-use Rattle.me_terms.specs.Sequences.{SequenceValue}
 use Rattle.branch_core.specs.Joined.{as_they_are}
 use Rattle.branch_core.specs.PartViews.{part_value}
 use Rattle.branch_walk.proofs.tally.Tally.new.Goals as goal
