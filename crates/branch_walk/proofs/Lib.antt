@@ -1,14 +1,18 @@
-mod Back
-mod Descents
-mod Ends
-mod LeftRight
-mod NodeKeys
-mod Places
-mod Reasons
-mod Spines
-mod Subtrees
-mod TreesAt
-mod TreesBelow
-mod TurnsTaken
-mod Waiting
-mod Work
+pub mod Back
+pub mod Descents
+pub mod Ends
+pub mod JoinedRuns
+pub mod LeftRight
+pub mod ListedLists
+pub mod NodeKeys
+pub mod Places
+pub mod Reasons
+pub mod Spines
+pub mod Subtrees
+pub mod Survivors
+pub mod Tallied
+pub mod TreesAt
+pub mod TreesBelow
+pub mod TurnsTaken
+pub mod Waiting
+pub mod Work

@@ -3,7 +3,8 @@ use Rattle.std.specs.Prelude.{◌≡◌, ◌⊎◌, ◌<◌, ◌≤◌, ℕ, Lis
 use Rattle.std.specs.List.{All, flat_map}
 use Rattle.me_terms.specs.Context.{Context}
 use Rattle.branch_core.specs.Paths.{Turns, key, IsLeftOf}
-use Rattle.branch_core.specs.Parts.{RecordValue}
+use Rattle.branch_core.specs.Parts.{PartValue, RecordValue}
+use Rattle.branch_core.specs.Parts as part
 use Rattle.branch_core.specs.Pieces.{Piece, Closed, Bounded, Sat, Gift, Cut, NoMemory}
 use Rattle.branch_core.specs.SearchTree.{SearchTree}
 use Rattle.branch_core.specs.StandsFor.{Account, record_of, StandsFor}
@@ -50,3 +51,12 @@ pub record IsPortion (list_bound share : ℕ) (search : SearchTree) (path : Turn
   pub lawful : All (MayBeGiven share path) given
   pub posted_are : posted ≡ sat_keys pieces
   pub one_sat : length posted ≤ 1
+
+-- The part stands for leaves that were walked, or lost for want of memory: it is no Gift and no Cut.
+abbrev pub IsOwnPart : PartValue → Type 0
+IsOwnPart (part.Closed l) = Unit {0}
+IsOwnPart (part.Bounded b) = Unit {0}
+IsOwnPart (part.Sat context) = Unit {0}
+IsOwnPart (part.Gift turns) = ⊥
+IsOwnPart (part.Cut k) = ⊥
+IsOwnPart part.NoMemory = Unit {0}

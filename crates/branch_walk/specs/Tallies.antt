@@ -1,8 +1,5 @@
 -- Tallies: what a walk has found so far, with neighbours joined.
-use Rattle.std.specs.Prelude.{◌≡◌, ◌+◌, ◌≤◌, ℕ, List, [], ◌∷◌, ◌++◌, map, length, Option, Some, None}
-use Rattle.me_terms.specs.Values.{InstanceValue}
-use Rattle.me_terms.specs.Context.{Context}
-use Rattle.me_terms.specs.declared.bounds.Bound.{Bound}
+use Rattle.std.specs.Prelude.{◌≡◌, ◌+◌, ◌≤◌, ℕ, Bool, true, false, List, [], ◌∷◌, ◌++◌, map, length, Option, Some, None}
 use Rattle.branch_core.specs.Paths.{Turns}
 use Rattle.branch_core.specs.PartViews.{part_value}
 use Rattle.branch_core.specs.Pieces.{Piece}
@@ -22,19 +19,19 @@ cuts key nodes = map (λ turns. piece.Cut turns key) nodes
 abbrev pub losses : List Turns → List Piece
 losses nodes = map (λ turns. piece.NoMemory) nodes
 
--- The list of a closed piece has each of its instances once.
-abbrev pub HasListOnce : Piece → Type 0
-HasListOnce (piece.Closed list) = EachOnce list
-HasListOnce (piece.Bounded b) = Unit {0}
-HasListOnce (piece.Sat turns context) = Unit {0}
-HasListOnce (piece.Gift turns) = Unit {0}
-HasListOnce (piece.Cut turns key) = Unit {0}
-HasListOnce piece.NoMemory = Unit {0}
+-- What follows may be joined to the piece: it is no Gift, and the list of a closed one has each of its instances once.
+abbrev pub MayTakeMore : Piece → Type 0
+MayTakeMore (piece.Closed list) = EachOnce list
+MayTakeMore (piece.Bounded b) = Unit {0}
+MayTakeMore (piece.Sat turns context) = Unit {0}
+MayTakeMore (piece.Gift turns) = ⊥
+MayTakeMore (piece.Cut turns key) = Unit {0}
+MayTakeMore piece.NoMemory = Unit {0}
 
 -- The last part is that of the one piece of the list; there is none where the list is empty.
 abbrev pub IsLast : ℕ → Option Part → List Piece → Type 0
 IsLast list_bound None tail = tail ≡ []
-IsLast list_bound (Some part) tail = (one : Piece) × (tail ≡ one ∷ []) × (part_value part ≡ part_of list_bound one) × HasListOnce one
+IsLast list_bound (Some part) tail = (one : Piece) × (tail ≡ one ∷ []) × (part_value part ≡ part_of list_bound one) × MayTakeMore one
 
 -- The tally has the parts of pieces to which the leaves are joined.
 pub record IsTally (list_bound : ℕ) (tally : Tally) (leaves : List Piece) : Type 0 where
@@ -73,15 +70,35 @@ AllowsCut key (Some (Gift path)) = ⊥
 AllowsCut key (Some (Cut other)) = other ≡ key
 AllowsCut key (Some NoMemory) = ⊥
 
--- The part is a Sat.
-abbrev pub IsSatPart : Option Part → Type 0
-IsSatPart None = ⊥
-IsSatPart (Some (Closed listed)) = ⊥
-IsSatPart (Some (Bounded b)) = ⊥
-IsSatPart (Some (Sat context)) = Unit {0}
-IsSatPart (Some (Gift path)) = ⊥
-IsSatPart (Some (Cut key)) = ⊥
-IsSatPart (Some NoMemory) = ⊥
+-- The part is a bound that was met.
+abbrev pub is_bounded : Option Part → Bool
+is_bounded None = false
+is_bounded (Some (Closed listed)) = false
+is_bounded (Some (Bounded b)) = true
+is_bounded (Some (Sat context)) = false
+is_bounded (Some (Gift path)) = false
+is_bounded (Some (Cut key)) = false
+is_bounded (Some NoMemory) = false
+
+-- The part is an exhausted leaf's.
+abbrev pub is_sat : Option Part → Bool
+is_sat None = false
+is_sat (Some (Closed listed)) = false
+is_sat (Some (Bounded b)) = false
+is_sat (Some (Sat context)) = true
+is_sat (Some (Gift path)) = false
+is_sat (Some (Cut key)) = false
+is_sat (Some NoMemory) = false
+
+-- The part is an exhausted leaf's, or a Cut.
+abbrev pub is_sat_or_cut : Option Part → Bool
+is_sat_or_cut None = false
+is_sat_or_cut (Some (Closed listed)) = false
+is_sat_or_cut (Some (Bounded b)) = false
+is_sat_or_cut (Some (Sat context)) = true
+is_sat_or_cut (Some (Gift path)) = false
+is_sat_or_cut (Some (Cut key)) = true
+is_sat_or_cut (Some NoMemory) = false
 
 -- A tally that takes in an own leaf.
 abbrev pub IsOpen : Tally → Type 0
@@ -93,4 +110,4 @@ TakesCut key tally = AllowsCut key tally.last
 
 -- A tally whose last part is an exhausted leaf's.
 abbrev pub IsSated : Tally → Type 0
-IsSated tally = IsSatPart tally.last
+IsSated tally = is_sat tally.last ≡ true

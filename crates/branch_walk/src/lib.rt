@@ -6,6 +6,7 @@
 
 mod entries;
 mod job;
+mod listing;
 mod node_key;
 mod portion;
 mod spine;
