@@ -6,6 +6,8 @@ pub mod LeftRight
 pub mod ListedLists
 pub mod NodeKeys
 pub mod Places
+pub mod PortionEnds
+pub mod Pushes
 pub mod Reasons
 pub mod Spines
 pub mod Subtrees
@@ -14,5 +16,6 @@ pub mod Tallied
 pub mod TreesAt
 pub mod TreesBelow
 pub mod TurnsTaken
+pub mod Visits
 pub mod Waiting
 pub mod Work

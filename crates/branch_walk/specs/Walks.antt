@@ -1,5 +1,5 @@
 -- What a walk of a context's tree does: to the hook, to the tally, and what its pieces stand for.
-use Rattle.std.specs.Prelude.{◌≡◌, ◌<◌, ◌≤◌, ℕ, Bool, true, List, [], ◌∷◌, ◌++◌, length, reverse, if◌then◌else◌}
+use Rattle.std.specs.Prelude.{◌≡◌, ◌<◌, ◌≤◌, ℕ, Bool, true, false, List, [], ◌∷◌, ◌++◌, length, reverse}
 use Rattle.std.specs.List.{All}
 use Rattle.me_terms.specs.Values.{ProblemValue, EntryValue}
 use Rattle.me_terms.specs.Context.{Context, add}
