@@ -5,7 +5,7 @@ use Rattle.me_terms.specs.Values.{ProblemValue, EntryValue, ReasonValue, Pseudo,
 use Rattle.me_terms.specs.Context.{Context, IsLiteralEntry, add}
 use Rattle.me_terms.specs.Contradictory.{Contradicts}
 use Rattle.me_terms.specs.Next.{Split, IsNext, HasRoom}
-use Rattle.me_terms.specs.Grown.{IsGrown, split_entry, went_right}
+use Rattle.me_terms.specs.Grown.{IsGrown, split_entry, went_left, went_right}
 use Rattle.me_terms.specs.declared.bounds.Bounds.{Bounds}
 use Rattle.me_terms.specs.declared.entry.Kind.{Kind}
 use Rattle.me_terms.specs.declared.atom.Literal.{Literal}
@@ -99,3 +99,10 @@ has_turned context new end entry off test grew before left is =
     let first = same_before new before off.0 left (sym off.1 ∙ is) in
     let entry_is = test before left is in
     grew ∙ (λ i. add (first i) (entry_is i))
+
+-- the left branch itself is grown
+pub left_grown : (problem : ProblemValue) (bounds : Bounds) (positive : Bool) (context before later : Context) (left : EntryValue) → IsGrown problem bounds positive context → context ≡ before ++ left ∷ later → 1 ≤ length before → left.reason ≡ SplitLeft → (sign : Bool) × IsGrown problem bounds sign (add before left)
+left_grown problem bounds positive context before later left h is some is_left =
+    let t = turns problem bounds positive context before later left h is some is_left in
+    let P : EntryValue → Type 0 = λ e. IsGrown problem bounds t.grown.0 (add before e) in
+    (t.grown.0, subst P (sym t.may.split) (went_left t.grown.1 t.may.next))

@@ -1,6 +1,7 @@
 -- The walk of a node whose left branch was walked: with what became of the right one.
 use Rattle.std.proofs.Common.{◌≡◌, ℕ, ◌+◌, ◌≤◌, Bool, true, false, List, [], ◌∷◌, ◌++◌, length, reverse, length-append, append-nil, append_assoc, refl, sym, subst, ap, ◌∙◌, arith}
 use Rattle.std.specs.List.{All}
+use Rattle.std.proofs.lemmas.List.Elements.{All-append, All-cons, All-head, All-nil, All-weaker}
 use Rattle.std.proofs.lemmas.List.{length-reverse, reverse-append}
 use Rattle.me_terms.specs.Values.{ProblemValue}
 use Rattle.me_terms.specs.Context.{Context}
@@ -29,14 +30,6 @@ use Rattle.branch_walk.proofs.TreesBelow.{tree_of}
 use Rattle.branch_walk.proofs.TurnsTaken.{turns_left, turns_right}
 
 -- ---- lists of gifts
-pub all_append : {A : Type 0} (P : A → Type 0) (xs ys : List A) → All P xs → All P ys → All P (xs ++ ys)
-all_append P [] ys f g = g
-all_append P (x ∷ xs) ys f g = (f.0, all_append P xs ys f.1 g)
-
-pub all_map : {A : Type 0} (P Q : A → Type 0) → ((x : A) → P x → Q x) → (xs : List A) → All P xs → All Q xs
-all_map P Q f [] h = tt
-all_map P Q f (x ∷ xs) h = (f x h.0, all_map P Q f xs h.1)
-
 reverse_gift : (away : Bool) (right : Turns) → reverse (gift_if away right) ≡ gift_if away right
 reverse_gift true right = refl
 reverse_gift false right = refl
@@ -53,8 +46,8 @@ pub right_given : (share : ℕ) (path right : Turns) → right ≡ path ++ true 
 right_given share path right is few = record { below = (true, [], is); right = (path, is); few = few }
 
 gift_lawful : (share : ℕ) (path right : Turns) (away : Bool) → right ≡ path ++ true ∷ [] → length right ≤ share → All (MayBeGiven share path) (gift_if away right)
-gift_lawful share path right true is few = (right_given share path right is few, tt)
-gift_lawful share path right false is few = tt
+gift_lawful share path right true is few = All-cons (MayBeGiven share path) right [] (right_given share path right is few) (All-nil (MayBeGiven share path))
+gift_lawful share path right false is few = All-nil (MayBeGiven share path)
 
 -- where nothing may be given, nothing was
 none_given : (turns gift : Turns) → MayBeGiven 0 turns gift → ⊥
@@ -66,7 +59,7 @@ none_given turns gift may =
 
 pub no_gifts : (turns : Turns) (gave : List Turns) → All (MayBeGiven 0 turns) gave → gave ≡ []
 no_gifts turns [] h = refl
-no_gifts turns (g ∷ gs) h = absurd (none_given turns g h.0)
+no_gifts turns (g ∷ gs) h = absurd (none_given turns g (All-head (MayBeGiven 0 turns) g gs h))
 
 no_length : {A : Type 0} (xs : List A) → length xs ≡ 0 → xs ≡ []
 no_length [] h = refl
@@ -120,7 +113,7 @@ module _ (problem : ProblemValue) (bounds : Bounds) (share : ℕ) (away : Bool) 
         hears = subst H no_more (hears_more hl.went (hears_more w.hears hears));
         replaced = own_node left_replaced replaced;
         gifts_are = sym reversed;
-        lawful = all_append (MayBeGiven share here) gift w.gave (gift_lawful share here right away hl.right_is hl.few) (all_map (MayBeGiven share (turns_taken hl.left)) (MayBeGiven share here) (λ g may. given_deeper share here (turns_taken hl.left) g false left_turns may) w.gave w.lawful);
+        lawful = All-append (MayBeGiven share here) gift w.gave (gift_lawful share here right away hl.right_is hl.few) (All-weaker (MayBeGiven share (turns_taken hl.left)) (MayBeGiven share here) (λ g may. given_deeper share here (turns_taken hl.left) g false left_turns may) w.gave w.lawful);
         sent_is = sym (sats_append w.more more ∙ (λ i. sym w.sent_is i ++ sent_is i));
         one_sat = one;
         goes_on = on;
@@ -198,6 +191,3 @@ module _ (problem : ProblemValue) (bounds : Bounds) (share : ℕ) (away : Bool) 
 -- ---- which gifts are admitted
 pub same_gifts : {J : Type 0} {a b c : Turns → J → Type 0} → SameGifts a b → SameGifts b c → SameGifts a c
 same_gifts f g path work = (λ h. (g path work).0 ((f path work).0 h), λ h. (f path work).1 ((g path work).1 h))
-
-pub gifts_stay : {J : Type 0} {a : Turns → J → Type 0} → SameGifts a a
-gifts_stay path work = (λ h. h, λ h. h)

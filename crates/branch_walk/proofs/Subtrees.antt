@@ -2,6 +2,7 @@
 use Rattle.std.proofs.Common.{◌≡◌, ℕ, ◌<◌, ◌≤◌, Bool, true, false, List, [], ◌∷◌, ◌++◌, length, map, reverse, inl, inr, append-nil, append_assoc, refl, sym, subst, ap, ◌∙◌, arith}
 use Rattle.std.specs.List.{All, flat_map}
 use Rattle.std.proofs.lemmas.Grind.{flat_map-append}
+use Rattle.std.proofs.lemmas.List.Elements.{All-nil}
 use Rattle.me_terms.specs.Values.{ProblemValue, EntryValue, Asserted, SplitLeft, SplitRight}
 use Rattle.me_terms.specs.Context.{Context, pseudo, add}
 use Rattle.me_terms.specs.Grown.{IsGrown, split_entry, left_of, asserted, went_left}
@@ -21,6 +22,7 @@ use Rattle.branch_walk.specs.Turning.{IsAllBack, IsBackAtLeft, beside}
 use Rattle.branch_walk.specs.Walks.{Heard, Hears, GoesOn, HasLeaf, HasSat, IsWalked, IsVisited}
 use Rattle.branch_walk.specs.declared.state.State.{State}
 use Rattle.branch_walk.specs.declared.state.State.TheVariants.{Going, Cutting, Lost}
+use Rattle.branch_walk.specs.declared.state.Visit.{Visit}
 use Rattle.branch_walk.specs.declared.state.Visit.TheVariants as visit
 use Rattle.branch_walk.specs.declared.tally.Tally.{Tally}
 use Rattle.branch_walk.proofs.LeftRight.{below_left, keys_rise}
@@ -252,7 +254,7 @@ module _ (problem : ProblemValue) (bounds : Bounds) (root : Context) (heard : He
         hears = hears_more w.hears hears;
         replaced = w.place.complete (w.told ++ told) more here rest own_here all_rest;
         gifts_are = ap (λ (g : List Turns). reverse g) (sym none);
-        lawful = tt;
+        lawful = All-nil (MayBeGiven share (turns_taken root));
         sent_is = sym sats;
         one_sat = one;
         goes_on = on;
@@ -365,3 +367,6 @@ pub grown_some : {problem : ProblemValue} {bounds : Bounds} {positive : Bool} {c
 grown_some {problem} {bounds} {positive} {context} h =
     let first = (grown h).0.first in
     slice_get_within context 0 (pseudo first.0) first.1
+
+pub visited_at : (problem : ProblemValue) (bounds : Bounds) (from to : Context) (was new : Tally) (told sent : List ℕ) (r s : Visit) → r ≡ s → IsVisited problem bounds from to was new told sent r → IsVisited problem bounds from to was new told sent s
+visited_at problem bounds from to was new told sent r s same h = let P : Visit → Type 0 = λ v. IsVisited problem bounds from to was new told sent v in subst P same h

@@ -17,6 +17,7 @@ use crate::tally::Tally;
 use crate::turning::{Search, back};
 use branch_core::Hook;
 use me_terms::Trunk;
+use std::alloc::AllocError;
 
 impl<'a> Search<'a> {
     /// Walks the tree of the branch's context. Where it was walked to the end, the branch is as before.
@@ -41,14 +42,18 @@ impl<'a> Search<'a> {
         let base = branch.len();
         'walk: loop {
             match self.visit(branch, tally, hook) {
-                Visit::Asserted | Visit::Left => {}
+                Visit::Asserted => {}
+                Visit::Left => {}
                 Visit::Leaf => {
                     if !back(branch, base) {
                         return State::Going;
                     }
-                    if self.turn_right(branch).is_err() {
-                        tally.lose();
-                        return State::Lost;
+                    match self.turn_right(branch) {
+                        Ok(()) => {}
+                        Err(AllocError) => {
+                            tally.lose();
+                            return State::Lost;
+                        }
                     }
                 }
                 Visit::Exhausted { key } => return State::Cutting { key },

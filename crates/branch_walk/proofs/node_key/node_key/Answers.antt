@@ -8,4 +8,4 @@ returns-in-None g c =
 
 pub loop-k-preserved : goal.loop-k-preserved
 loop-k-preserved g c =
-    turn_more (g.V.View.context c.args.branch.now) c.loop-k.k c.in-Some.entry.now c.loop-k.path c.in-Some-2.longer (sym c.in-Some.ensures.item) c.loop-k.invariant c.in-Some-2.ensures
+    turn_more (g.V.View.context c.args.branch.now) c.loop-k.k c.in-Some.entry.now c.loop-k.path c.in-Some-with_turn.longer (sym c.in-Some.ensures.item) c.loop-k.invariant c.in-Some-with_turn.ensures

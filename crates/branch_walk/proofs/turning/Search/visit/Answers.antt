@@ -9,11 +9,11 @@ returns-in-Some-clause-visited g c =
 
 pub returns-in-Ok-clause-visited : goal.returns-in-Ok-clause-visited
 returns-in-Ok-clause-visited g c =
-    let t = c.in-None.ensures.told in
+    let t = c.told_cut.ensures.told in
     let e = c.enter.ensures.visited in
     (t.0, e.0, hears_then t.1 e.1, e.2 t.0)
 
 pub returns-in-Err-clause-visited : goal.returns-in-Err-clause-visited
 returns-in-Err-clause-visited g c =
-    let t = c.in-None.ensures.told in
+    let t = c.told_cut.ensures.told in
     (t.0, [], t.1, (refl, refl))
