@@ -3,9 +3,9 @@ use Rattle.std.proofs.Common.{◌≡◌, ℕ, ◌+◌, ◌≤◌, Bool, true, fa
 use Rattle.std.specs.List.{All}
 use Rattle.std.proofs.lemmas.List.Elements.{All-append, All-cons, All-head, All-nil, All-weaker}
 use Rattle.std.proofs.lemmas.List.{length-reverse, reverse-append}
-use Rattle.me_terms.specs.Values.{ProblemValue}
-use Rattle.me_terms.specs.Context.{Context}
-use Rattle.me_terms.specs.Grown.{IsGrown, left_of, right_of, went_left, went_right}
+use Rattle.me_terms.specs.Values.{ProblemValue, SplitLeft}
+use Rattle.me_terms.specs.Context.{Context, add}
+use Rattle.me_terms.specs.Grown.{IsGrown, split_entry, left_of, right_of, went_left, went_right}
 use Rattle.me_terms.specs.declared.bounds.Bounds.{Bounds}
 use Rattle.me_terms.specs.declared.entry.Kind.{Kind}
 use Rattle.me_terms.specs.declared.atom.Literal.{Literal}
@@ -17,15 +17,18 @@ use Rattle.branch_core.specs.Replaced.{Replaced, own_node, given, cut, no_memory
 use Rattle.branch_core.specs.SearchTree.{SearchTree, Node, IsSearchTree, splits}
 use Rattle.branch_walk.specs.Jobs.{turns_taken, MayBeGiven}
 use Rattle.branch_walk.specs.Portions.{gifts, sat_keys, MayCut}
-use Rattle.branch_walk.specs.Tallies.{IsTally, cuts, losses}
-use Rattle.branch_walk.specs.Walks.{Heard, Hears, GoesOn, IsWalked, IsLeftOfSplit, HasWalkedLeft, gift_if}
+use Rattle.branch_walk.specs.Tallies.{IsTally, IsOpen, cuts, losses}
+use Rattle.branch_walk.specs.Turning.{EndsLeft, beside}
+use Rattle.branch_walk.specs.Walks.{Heard, Hears, GoesOn, IsReady, IsWalked, IsLeftOfSplit, HasWalkedLeft, gift_if}
 use Rattle.branch_walk.specs.declared.state.State.{State}
 use Rattle.branch_walk.specs.declared.state.State.TheVariants.{Going, Cutting, Lost}
 use Rattle.branch_walk.specs.declared.tally.Tally.{Tally}
 use Rattle.branch_walk.proofs.Descents.{goes_more}
+use Rattle.branch_walk.proofs.Ends.{longer}
+use Rattle.branch_walk.proofs.Pushes.{open_takes}
 use Rattle.branch_walk.proofs.LeftRight.{below_left, children_apart}
 use Rattle.branch_walk.proofs.Places.{replaced_more, may_left, may_right}
-use Rattle.branch_walk.proofs.Subtrees.{hears_more, hears_none, hears_sent, gifts_append, sats_append}
+use Rattle.branch_walk.proofs.Subtrees.{hears_more, hears_none, hears_sent, gifts_append, sats_append, grown_some}
 use Rattle.branch_walk.proofs.TreesBelow.{tree_of}
 use Rattle.branch_walk.proofs.TurnsTaken.{turns_left, turns_right}
 
@@ -191,3 +194,30 @@ module _ (problem : ProblemValue) (bounds : Bounds) (share : ℕ) (away : Bool) 
 -- ---- which gifts are admitted
 pub same_gifts : {J : Type 0} {a b c : Turns → J → Type 0} → SameGifts a b → SameGifts b c → SameGifts a c
 same_gifts f g path work = (λ h. (g path work).0 ((f path work).0 h), λ h. (f path work).1 ((g path work).1 h))
+
+-- ---- the left branch that was walked
+pub ready_open : (state : State) (tally : Tally) → IsOpen tally → IsReady state tally
+ready_open Going tally h = h
+ready_open (Cutting cut_key) tally h = open_takes cut_key tally.last h
+ready_open Lost tally h = tt
+
+module _ (problem : ProblemValue) (bounds : Bounds) (share : ℕ) (away : Bool) (right : Turns) (base : ℕ) (state : State) (stands_at node : Context) (start mid : Heard) (first was : Tally) (hl : HasWalkedLeft problem bounds share away right base state stands_at node start mid first was) where
+  pub left_ends : EndsLeft hl.left
+  left_ends = record { before = node; left = split_entry hl.split.l hl.split.kind SplitLeft; some = grown_some hl.grown.1; is = hl.split.is; is_left = refl }
+
+  pub left_is_grown : (positive : Bool) × IsGrown problem bounds positive hl.left
+  left_is_grown =
+      let P : Context → Type 0 = λ c. IsGrown problem bounds hl.grown.0 c in
+      (hl.grown.0, subst P (sym hl.split.is) (went_left hl.grown.1 hl.split.next))
+
+  pub base_some : 1 ≤ base
+  base_some =
+      let many = ap length hl.split.is in
+      let more = longer node (split_entry hl.split.l hl.split.kind SplitLeft) in
+      let same = hl.at_base in
+      omega (arith, many, more, same)
+
+  pub right_grown : (turned : Context) → turned ≡ add node (beside (split_entry hl.split.l hl.split.kind SplitLeft)) → (positive : Bool) × IsGrown problem bounds positive turned
+  right_grown turned is =
+      let P : Context → Type 0 = λ c. IsGrown problem bounds hl.grown.0 c in
+      (hl.grown.0, subst P (sym is) (went_right hl.grown.1 hl.split.next))
