@@ -1,6 +1,7 @@
 -- The walk of a node whose left branch was walked: with what became of the right one.
 use Rattle.std.proofs.Common.{◌≡◌, ℕ, ◌+◌, ◌≤◌, Bool, true, false, List, [], ◌∷◌, ◌++◌, length, reverse, length-append, append-nil, append_assoc, refl, sym, subst, ap, ◌∙◌, arith}
 use Rattle.std.specs.List.{All}
+use Rattle.std.specs.Prelude.{if◌then◌else◌}
 use Rattle.std.proofs.lemmas.List.Elements.{All-append, All-cons, All-head, All-nil, All-weaker}
 use Rattle.std.proofs.lemmas.List.{length-reverse, reverse-append}
 use Rattle.me_terms.specs.Values.{ProblemValue, SplitLeft}
@@ -53,7 +54,7 @@ gift_lawful share path right true is few = All-cons (MayBeGiven share path) righ
 gift_lawful share path right false is few = All-nil (MayBeGiven share path)
 
 -- where nothing may be given, nothing was
-none_given : (turns gift : Turns) → MayBeGiven 0 turns gift → ⊥
+pub none_given : (turns gift : Turns) → MayBeGiven 0 turns gift → ⊥
 none_given turns gift may =
     let many = ap length may.below.2 in
     let more = length-append turns (may.below.0 ∷ may.below.1) in
@@ -221,3 +222,8 @@ module _ (problem : ProblemValue) (bounds : Bounds) (share : ℕ) (away : Bool) 
   right_grown turned is =
       let P : Context → Type 0 = λ c. IsGrown problem bounds hl.grown.0 c in
       (hl.grown.0, subst P (sym is) (went_right hl.grown.1 hl.split.next))
+
+-- a path that went away, or did not
+pub given_if : (away : Bool) (right : Turns) (old new : List Turns) → new ≡ (if away then old ++ right ∷ [] else old) → new ≡ old ++ gift_if away right
+given_if true right old new h = h
+given_if false right old new h = h ∙ sym (append-nil old)

@@ -1,12 +1,11 @@
 //! The walk of the whole tree, on one thread.
-ghost use Rattle.std.specs.Prelude.{◌≡◌, [], ◌∷◌, ◌++◌, false, IfOk, map};
+ghost use Rattle.std.specs.Prelude.{◌∷◌, [], false, IfOk};
 ghost use Rattle.me_terms.specs.Validity.{IsLawful, IsValid};
 ghost use Rattle.branch_core.specs.Whole.{AreWholeRecords};
 
 use crate::hook_alone::Alone;
-use crate::state::State;
-use crate::tally::Tally;
-use crate::turning::Search;
+use crate::job::Job;
+use crate::portion::walk_portion;
 use branch_core::{Parts, Path, Record};
 use me_context::Context;
 use me_terms::{Bounds, Problem};
@@ -18,19 +17,13 @@ pub fn walk_alone(alloc: Global, problem: &Problem, bounds: &Bounds) -> Result<R
     requires bounds { IsLawful bounds.now }
     ensures whole { IfOk result (λ record'. AreWholeRecords problem.now bounds.now false (record' ∷ [])) }
 {
-    let search = Search {
-        alloc,
-        problem,
-        bounds,
-    };
-    let mut branch = Context::new(alloc)?;
+    let path = Path::root();
+    let branch = Context::new(alloc)?;
     let mut room = Parts::new(alloc);
-    room.reserve(2)?;
-    let mut tally = Tally::new(room);
+    room.reserve(40)?;
+    let job = Job { path, branch };
     let mut hook = Alone::new();
-    let _state = search.subtree(&mut branch, &mut tally, &mut hook);
-    Ok(Record {
-        path: Path::root(),
-        parts: tally.finish(),
-    })
+    Ok(walk_portion(
+        alloc, problem, bounds, 0, job, room, &mut hook,
+    ))
 }

@@ -4,7 +4,9 @@
 //! left to right, with a place for each right child that was given away.
 #![tactic(auto)]
 
+mod alone;
 mod entries;
+mod hook_alone;
 mod job;
 mod listing;
 mod node_key;
@@ -16,6 +18,7 @@ mod tally;
 mod turning;
 mod visiting;
 
+pub use alone::walk_alone;
 pub use job::Job;
 pub use next_rule::next_step;
 pub use portion::walk_portion;

@@ -1,5 +1,5 @@
 //! The walk near the path of a job, which gives right children away.
-ghost use Rattle.std.specs.Prelude.{◌≡◌, ◌≤◌, ◌+◌, ◌-◌, ◌*◌, ◌++◌, ◌∷◌, [], ℕ, Bool, true, List, length, IfOk, MatchOption, if◌then◌else◌};
+ghost use Rattle.std.specs.Prelude.{◌≡◌, ◌<◌, ◌≤◌, ◌+◌, ◌-◌, ◌*◌, ◌++◌, ◌∷◌, [], ℕ, Bool, true, false, List, length, IfOk, MatchOption, if◌then◌else◌};
 ghost use Rattle.me_terms.specs.Validity.{IsLawful, IsValid};
 ghost use Rattle.me_terms.specs.Context.{Context};
 ghost use Rattle.me_terms.specs.Grown.{IsGrown};
@@ -20,6 +20,35 @@ use crate::turning::{Search, shrink_to};
 use branch_core::{Give, Hook, Path};
 use me_terms::Trunk;
 use std::alloc::AllocError;
+
+/// The number of turns.
+fn turn_count(path: Path) -> u8
+    ensures { result ≡ length path }
+{
+    path.len
+}
+
+/// The path of the left child.
+fn left_path(path: Path) -> Path
+    requires { length path < 16 }
+    ensures { result ≡ path ++ false ∷ [] }
+{
+    match path.left() {
+        Some(left) => left,
+        None => unreachable!(),
+    }
+}
+
+/// The path of the right child.
+fn right_path(path: Path) -> Path
+    requires { length path < 16 }
+    ensures { result ≡ path ++ true ∷ [] }
+{
+    match path.right() {
+        Some(right) => right,
+        None => unreachable!(),
+    }
+}
 
 impl<'a> Search<'a> {
     /// Walks the tree of the branch's context, whose path it is. The right children of nodes of fewer than
@@ -46,15 +75,14 @@ impl<'a> Search<'a> {
         ensures pushes { AddsAtMost (2 * (share - length path) + 1) tally.old tally.new }
         ensures condition { SameGifts (H.may_give hook.old) (H.may_give hook.new) }
     {
-        if u32::from(path.len) >= share {
+        if u32::from(turn_count(path)) >= share {
             return self.subtree(branch, tally, hook);
         }
         if let Some(state) = self.to_split(branch, tally, hook) {
             return state;
         }
-        let (Some(left), Some(right)) = (path.left(), path.right()) else {
-            unreachable!()
-        };
+        let left = left_path(path);
+        let right = right_path(path);
         let base = branch.len();
         let away = self.give_right(right, branch, hook);
         let state = self.spine(share, left, branch, tally, hook);

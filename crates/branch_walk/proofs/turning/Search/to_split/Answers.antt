@@ -1,4 +1,4 @@
-use Rattle.std.proofs.Common.{ℕ, List, [], ◌∷◌, ◌++◌, append-nil, refl, sym, subst, ◌∙◌}
+use Rattle.std.proofs.Common.{ℕ, List, [], ◌∷◌, ◌++◌, length, append-nil, refl, sym, subst, ◌∙◌}
 use Rattle.branch_core.specs.Paths.{Turns}
 use Rattle.branch_core.specs.Pieces.{Piece}
 use Rattle.branch_walk.specs.Tallies.{IsTally, IsOpen, cuts, losses}
@@ -6,6 +6,7 @@ use Rattle.branch_walk.specs.Walks.{Heard}
 use Rattle.branch_walk.specs.declared.state.State.TheVariants as state
 use Rattle.branch_walk.specs.declared.state.Visit.TheVariants as visit
 use Rattle.branch_walk.specs.declared.tally.Tally.{Tally}
+use Rattle.branch_walk.specs.Turning.{IsAllBack}
 use Rattle.branch_walk.proofs.Descents.{descends, lifted}
 use Rattle.branch_walk.proofs.Pushes.{sated_takes}
 use Rattle.branch_walk.proofs.Spines.{same_gifts}
@@ -48,7 +49,7 @@ returns-in-Leaf-clause-ended g c =
     let O : Tally → Type 0 = λ t. IsOpen t in
     let w = walk_begins problem bounds from h c.down.tally d.leads.grown.0 d.leads.grown.1 (subst O (sym d.same) c.requires.open) in
     let at = visited_at problem bounds from to c.down.tally c.visit.new.tally v.0 v.1 c.visit.result visit.Leaf c.in-Leaf.is v.3 in
-    let gone = record { later = []; was = sym (append-nil from); none = tt; at_base = refl } in (
+    let gone : IsAllBack (length from) from from = record { later = []; was = sym (append-nil from); none = tt; at_base = refl } in (
       λ share. lifted problem bounds context from first h now c.args.tally.now c.down.tally c.visit.new.tally state.Going share d.told d.leads d.hears d.same (ends_going problem bounds from h c.down.tally from from h now c.down.tally c.visit.new.tally v.0 v.1 w v.2 at.2 at.0 gone share),
       at.0.is_open,
       λ _. (d.below.0, at.1 ∙ d.below.1),
