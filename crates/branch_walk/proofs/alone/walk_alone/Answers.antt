@@ -28,4 +28,4 @@ returns c =
     let t = tree_of problem bounds false (start false) started in
     let G : Context → Type 0 = λ x. IsGrown problem bounds false x in
     let I : Turns → Type 0 = λ path. IsPortion bounds.list 0 t.0 path p.0 p.2 p.1 c.walk_portion.result in
-    whole_alone problem bounds c.walk_portion.result p.0 p.2 p.1 (sym p.3) (sym p.4) t.0 t.1 (subst I c.root-path.ensures (p.6 false t.0 (subst G (sym c.in_ok-branch.ensures) started) t.1))
+    record { whole = whole_alone problem bounds c.walk_portion.result p.0 p.2 p.1 (sym p.3) (sym p.4) t.0 t.1 (subst I c.root-path.ensures (p.6 false t.0 (subst G (sym c.in_ok-branch.ensures) started) t.1)) }

@@ -9,10 +9,10 @@ returns-clause-portion g c =
     let problem = c.args.problem.now in
     let bounds = c.args.bounds.now in
     let path = c.args.job.path in
-    let w = c.spine.ensures.walked in
+    let w = c.spine-state.ensures.walked in
     let done = c.finish.ensures.pieces bounds.list w.more (w.tally [] (c.new-tally.ensures.tally bounds.list)) in
     let first : Heard = record { given = g.H.Hook.given c.args.hook.now; seen = g.H.Hook.seen c.args.hook.now; posted = g.H.Hook.posted c.args.hook.now } in
-    let now : Heard = record { given = g.H.Hook.given c.spine.new.hook; seen = g.H.Hook.seen c.spine.new.hook; posted = g.H.Hook.posted c.spine.new.hook } in (
+    let now : Heard = record { given = g.H.Hook.given c.spine-state.new.hook; seen = g.H.Hook.seen c.spine-state.new.hook; posted = g.H.Hook.posted c.spine-state.new.hook } in (
       w.told,
       w.sent,
       w.gave,
@@ -20,5 +20,5 @@ returns-clause-portion g c =
       w.hears.given,
       w.hears.posted,
       λ positive search grown tree.
-          portion problem bounds c.args.share path (g.T.View.context c.args.job.branch) positive grown c.requires.job.turns c.spine.result first now c.new-tally.result c.spine.new.tally w done.0 done.1 _ (λ i. record { path = path; parts = done.2 i }) search tree,
+          portion problem bounds c.args.share path (g.T.View.context c.args.job.branch) positive grown c.requires.job.turns c.spine-state.result first now c.new-tally.result c.spine-state.new.tally w done.0 done.1 _ (λ i. record { path = path; parts = done.2 i }) search tree,
     )

@@ -4,4 +4,4 @@ use Rattle.branch_core.specs.PathLaws.{length_turns}
 use Rattle.branch_walk.proofs.spine.turn_count.Goals as goal
 
 pub returns : goal.returns
-returns c = sym (length_turns c.p.inside.len c.p.inside.bits) ∙ ap (λ (t : Turns). length t) c.p.view_is
+returns c = sym (length_turns c.path.inside.len c.path.inside.bits) ∙ ap (λ (t : Turns). length t) c.path.view_is

@@ -17,7 +17,7 @@ give_right-away-requires-clause-hook g t c = λ work job is.
     let problem = c.args.self.now.problem.now in
     let bounds = c.args.self.now.bounds.now in
     let context = g.T.View.context c.args.branch.now in
-    let e = c.in_default.ensures tt in
+    let e = c.in_default.ensures in
     let told = e.ended.0 in
     let node = e.ended.1 in
     let leads = e.ended.3 in
@@ -38,7 +38,7 @@ give_right-away-requires-clause-beside g t c =
     let problem = c.args.self.now.problem.now in
     let bounds = c.args.self.now.bounds.now in
     let context = g.T.View.context c.args.branch.now in
-    let e = c.in_default.ensures tt in
+    let e = c.in_default.ensures in
     let told = e.ended.0 in
     let node = e.ended.1 in
     let leads = e.ended.3 in
@@ -59,7 +59,7 @@ spine-state-requires g t c κs within =
     let problem = c.args.self.now.problem.now in
     let bounds = c.args.self.now.bounds.now in
     let context = g.T.View.context c.args.branch.now in
-    let e = c.in_default.ensures tt in
+    let e = c.in_default.ensures in
     let told = e.ended.0 in
     let node = e.ended.1 in
     let leads = e.ended.3 in
@@ -87,7 +87,7 @@ spine-state-requires g t c κs within =
       turns = ap turns_taken split.is ∙ (turns_left node split.l split.kind ∙ (ap (λ (t : Turns). t ++ false ∷ []) path_is ∙ sym left_is));
     } in (
       omega (arith, c.decreases, number, long, one_more, c.from.ensures, c.if-from-share.false),
-      (
+      (within.0, (within.1, (
         c.requires.valid,
         (
           c.requires.bounds,
@@ -108,7 +108,7 @@ spine-state-requires g t c κs within =
             ),
           ),
         ),
-      ),
+      ))),
     )
 
 pub after_left-requires-clause-kept : goal.after_left-requires-clause-kept
@@ -116,7 +116,7 @@ after_left-requires-clause-kept g t c =
     let problem = c.args.self.now.problem.now in
     let bounds = c.args.self.now.bounds.now in
     let context = g.T.View.context c.args.branch.now in
-    let e = c.in_default.ensures tt in
+    let e = c.in_default.ensures in
     let told = e.ended.0 in
     let node = e.ended.1 in
     let leads = e.ended.3 in
@@ -138,7 +138,7 @@ after_left-requires-clause-room g t c =
     let problem = c.args.self.now.problem.now in
     let bounds = c.args.self.now.bounds.now in
     let context = g.T.View.context c.args.branch.now in
-    let e = c.in_default.ensures tt in
+    let e = c.in_default.ensures in
     let told = e.ended.0 in
     let node = e.ended.1 in
     let leads = e.ended.3 in
@@ -165,7 +165,7 @@ after_left-requires-clause-left g t c =
     let problem = c.args.self.now.problem.now in
     let bounds = c.args.self.now.bounds.now in
     let context = g.T.View.context c.args.branch.now in
-    let e = c.in_default.ensures tt in
+    let e = c.in_default.ensures in
     let told = e.ended.0 in
     let node = e.ended.1 in
     let leads = e.ended.3 in
@@ -207,7 +207,7 @@ returns-clause-walked g t c =
     let problem = c.args.self.now.problem.now in
     let bounds = c.args.self.now.bounds.now in
     let context = g.T.View.context c.args.branch.now in
-    let e = c.in_default.ensures tt in
+    let e = c.in_default.ensures in
     let told = e.ended.0 in
     let node = e.ended.1 in
     let leads = e.ended.3 in
@@ -251,7 +251,7 @@ returns-clause-stands g t c = λ going.
     let problem = c.args.self.now.problem.now in
     let bounds = c.args.self.now.bounds.now in
     let context = g.T.View.context c.args.branch.now in
-    let e = c.in_default.ensures tt in
+    let e = c.in_default.ensures in
     let told = e.ended.0 in
     let node = e.ended.1 in
     let leads = e.ended.3 in
@@ -295,7 +295,7 @@ returns-clause-pushes g t c =
     let problem = c.args.self.now.problem.now in
     let bounds = c.args.self.now.bounds.now in
     let context = g.T.View.context c.args.branch.now in
-    let e = c.in_default.ensures tt in
+    let e = c.in_default.ensures in
     let told = e.ended.0 in
     let node = e.ended.1 in
     let leads = e.ended.3 in
