@@ -32,7 +32,7 @@ goes_back base old now new h lt e is b isnt test =
       above = omega (arith, many, more, lt);
       later = e ∷ h.later;
       was = h.was ∙ (ap (λ (c : Context). c ++ h.later) is ∙ append_assoc new (e ∷ []) h.later);
-      none = ( not_left b e isnt (test new e is), h.none);
+      none = (not_left b e isnt (test new e is), h.none);
     }
 
 pub is_shorter : (now new : Context) (e : EntryValue) → now ≡ add new e → length new < length now
@@ -47,7 +47,7 @@ ends (e ∷ (f ∷ es)) some =
     (e ∷ later.0, later.1, λ i. e ∷ later.2 i)
 
 pub at_left : (base : ℕ) (old now : Context) → IsBack base old now → 1 ≤ base → base < length now → (b : Bool) → b ≡ true → ((before : Context) (last : EntryValue) → now ≡ add before last → IsTrue b ↔ (last.reason ≡ SplitLeft)) → IsBackAtLeft base old now
-at_left base old now h  some lt b sure test =
+at_left base old now h some lt b sure test =
     let last = ends now (omega (arith, lt)) in
     let many = ap length last.2 in
     let more = longer last.0 last.1 in

@@ -70,8 +70,8 @@ pub record IsPlace (root : Turns) (whole : SearchTree) (turns : Turns) (own : Se
 pub place_root : (root : Turns) (whole : SearchTree) → IsPlace root whole root whole [] []
 place_root root whole = record {
   complete = λ told pieces here rest h none.
-    let P : List Piece → Type 0 = λ ps. Replaced (MayCut told pieces) root whole ps in
-    subst P (sym (ap (λ (ps : List Piece). here ++ ps) none ∙ append-nil here)) h;
+      let P : List Piece → Type 0 = λ ps. Replaced (MayCut told pieces) root whole ps in
+      subst P (sym (ap (λ (ps : List Piece). here ++ ps) none ∙ append-nil here)) h;
 }
 
 pub place_at : {root turns now : Turns} {whole own : SearchTree} {passed : List Piece} {waiting : List Branch} → now ≡ turns → IsPlace root whole turns own passed waiting → IsPlace root whole now own passed waiting
@@ -81,19 +81,19 @@ place_at {root} {turns} {now} {whole} {own} {passed} {waiting} same at =
 pub place_left : (root turns : Turns) (whole own left right : SearchTree) (passed : List Piece) (waiting : List Branch) → own ≡ Node left right → IsPlace root whole turns own passed waiting → IsPlace root whole (turns ++ false ∷ []) left passed (record { turns = turns ++ true ∷ []; tree = right } ∷ waiting)
 place_left root turns whole own left right passed waiting is at = record {
   complete = λ told pieces here rest h more.
-    let Q : SearchTree → Type 0 = λ s. Replaced (MayCut told pieces) turns s (here ++ more.0) in
-    let node = subst Q (sym is) (own_node h more.2) in
-    let all = at.complete told pieces (here ++ more.0) more.1 node more.3 in
-    let P : List Piece → Type 0 = λ ps. Replaced (MayCut told pieces) root whole (passed ++ ps) in
-    subst P (append_assoc here more.0 more.1 ∙ ap (λ (ps : List Piece). here ++ ps) (sym more.4)) all;
+      let Q : SearchTree → Type 0 = λ s. Replaced (MayCut told pieces) turns s (here ++ more.0) in
+      let node = subst Q (sym is) (own_node h more.2) in
+      let all = at.complete told pieces (here ++ more.0) more.1 node more.3 in
+      let P : List Piece → Type 0 = λ ps. Replaced (MayCut told pieces) root whole (passed ++ ps) in
+      subst P (append_assoc here more.0 more.1 ∙ ap (λ (ps : List Piece). here ++ ps) (sym more.4)) all;
 }
 
 pub place_right : (root turns : Turns) (whole own : SearchTree) (passed : List Piece) (outcome : TreeOutcome) (b : Branch) (waiting : List Branch) → own ≡ Leaf outcome → IsPlace root whole turns own passed (b ∷ waiting) → IsPlace root whole b.turns b.tree (passed ++ leaf_piece turns outcome ∷ []) waiting
 place_right root turns whole own passed outcome b waiting is at = record {
   complete = λ told pieces here rest h more.
-    let leaf : List Piece = leaf_piece turns outcome ∷ [] in
-    let Q : SearchTree → Type 0 = λ s. Replaced (MayCut told pieces) turns s leaf in
-    let all = at.complete told pieces leaf (here ++ rest) (subst Q (sym is) own_leaf) (here, rest, h, more, refl) in
-    let P : List Piece → Type 0 = λ ps. Replaced (MayCut told pieces) root whole ps in
-    subst P (sym (append_assoc passed leaf (here ++ rest))) all;
+      let leaf : List Piece = leaf_piece turns outcome ∷ [] in
+      let Q : SearchTree → Type 0 = λ s. Replaced (MayCut told pieces) turns s leaf in
+      let all = at.complete told pieces leaf (here ++ rest) (subst Q (sym is) own_leaf) (here, rest, h, more, refl) in
+      let P : List Piece → Type 0 = λ ps. Replaced (MayCut told pieces) root whole ps in
+      subst P (sym (append_assoc passed leaf (here ++ rest))) all;
 }

@@ -82,15 +82,15 @@ whole_alone problem bounds record' told gave sent untold ungiven search tree p =
     let only : (other : Account) → IsIn other accounts → other ≡ account = λ other h. (one_at other account h.0 h.1).1 in
     let no_gift : (other : Account) (g : Turns) → IsIn other accounts → IsIn (Gift g) other.pieces → ⊥ =
     λ other g h i.
-        let P : Account → Type 0 = λ a. IsIn (Gift g) a.pieces in
-        let there = subst P (only other h) i in
-        gift_at g p.pieces there.0 there.1 no_gifts in
+    let P : Account → Type 0 = λ a. IsIn (Gift g) a.pieces in
+    let there = subst P (only other h) i in
+    gift_at g p.pieces there.0 there.1 no_gifts in
     let licensed : (k : ℕ) (t : Turns) → MayCut told p.pieces k t → IsLicensed accounts k t =
     λ k t may.
-        elim may as (λ _. IsLicensed accounts k t) [
-          | inl a ↦ let P : List ℕ → Type 0 = λ ks. IsIn k ks in let there = subst P untold a.0 in absurd (none_at k there.0 there.1)
-          | inr b ↦ (account, b.0, b.1, (0, refl), b.2, b.3, b.4)
-        ] in
+    elim may as (λ _. IsLicensed accounts k t) [
+      | inl a ↦ let P : List ℕ → Type 0 = λ ks. IsIn k ks in let there = subst P untold a.0 in absurd (none_at k there.0 there.1)
+      | inr b ↦ (account, b.0, b.1, (0, refl), b.2, b.3, b.4)
+    ] in
     let stands : StandsFor (IsLicensed accounts) search account = record {
       own = p.stands.own;
       leaves = p.stands.leaves;

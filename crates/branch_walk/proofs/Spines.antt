@@ -103,10 +103,10 @@ module _ (problem : ProblemValue) (bounds : Bounds) (share : ℕ) (away : Bool) 
       let no_more : gift ++ (w.gave ++ []) ≡ gave = ap (λ (g : List Turns). gift ++ g) (append-nil w.gave) in
       let reversed : reverse (gifts all) ≡ gave =
       ap (λ (g : List Turns). reverse g) (gifts_append w.more more)
-          ∙ (reverse-append (gifts w.more) (gifts more)
-          ∙ (ap (λ (g : List Turns). reverse g ++ reverse (gifts w.more)) gift_is
-          ∙ (ap (λ (g : List Turns). g ++ reverse (gifts w.more)) (reverse_gift away right)
-          ∙ ap (λ (g : List Turns). gift ++ g) (sym w.gifts_are)))) in
+      ∙ (reverse-append (gifts w.more) (gifts more)
+      ∙ (ap (λ (g : List Turns). reverse g ++ reverse (gifts w.more)) gift_is
+      ∙ (ap (λ (g : List Turns). g ++ reverse (gifts w.more)) (reverse_gift away right)
+      ∙ ap (λ (g : List Turns). gift ++ g) (sym w.gifts_are)))) in
       record {
         own = Node w.own tree;
         tree = splits hl.split.next (subst C hl.split.is w.tree) is_tree;

@@ -243,7 +243,7 @@ module _ (problem : ProblemValue) (bounds : Bounds) (root : Context) (heard : He
       let none : gifts more ≡ [] = none_both (gifts w.passed) (gifts (here ++ rest)) (gifts more) (gifts_append w.passed (here ++ rest)) w.no_gifts (none_both (gifts here) (gifts rest) (gifts (here ++ rest)) (gifts_append here rest) no_gift no_gifts) in
       let sats : sat_keys more ≡ sent =
       sats_append w.passed (here ++ rest)
-          ∙ (ap (λ (ks : List ℕ). ks ++ sat_keys (here ++ rest)) w.no_sats ∙ (sats_append here rest ∙ (ap (λ (ks : List ℕ). sat_keys here ++ ks) no_sats ∙ (append-nil (sat_keys here) ∙ sat_is)))) in
+      ∙ (ap (λ (ks : List ℕ). ks ++ sat_keys (here ++ rest)) w.no_sats ∙ (sats_append here rest ∙ (ap (λ (ks : List ℕ). sat_keys here ++ ks) no_sats ∙ (append-nil (sat_keys here) ∙ sat_is)))) in
       record {
         own = w.whole;
         tree = w.whole_tree;

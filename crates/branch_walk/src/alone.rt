@@ -23,7 +23,5 @@ pub fn walk_alone(alloc: Global, problem: &Problem, bounds: &Bounds) -> Result<R
     room.reserve(40)?;
     let job = Job { path, branch };
     let mut hook = Alone::new();
-    Ok(walk_portion(
-        alloc, problem, bounds, 0, job, room, &mut hook,
-    ))
+    Ok(walk_portion(alloc, problem, bounds, 0, job, room, &mut hook))
 }

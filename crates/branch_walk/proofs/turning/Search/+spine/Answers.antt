@@ -87,28 +87,34 @@ spine-state-requires g t c κs within =
       turns = ap turns_taken split.is ∙ (turns_left node split.l split.kind ∙ (ap (λ (t : Turns). t ++ false ∷ []) path_is ∙ sym left_is));
     } in (
       omega (arith, c.decreases, number, long, one_more, c.from.ensures, c.if-from-share.false),
-      (within.0, (within.1, (
-        c.requires.valid,
+      (
+        within.0,
         (
-          c.requires.bounds,
+          within.1,
           (
-            c.requires.share,
+            c.requires.valid,
             (
-              job,
+              c.requires.bounds,
               (
-                subst O (sym same) c.requires.open,
+                c.requires.share,
                 (
-                  (c.requires.kept.0, subst T (sym same) c.requires.kept.1),
+                  job,
                   (
-                    omega (arith, number, long, one_more, c.from.ensures, c.if-from-share.false, room, spare),
-                    λ gift work may is_job is. (c.give_right-away.ensures.condition gift work).0 ((c.to_split.ensures.condition gift work).0 (c.requires.hook gift work (given_deeper c.args.share c.args.path left gift false left_is may) is_job is)),
+                    subst O (sym same) c.requires.open,
+                    (
+                      (c.requires.kept.0, subst T (sym same) c.requires.kept.1),
+                      (
+                        omega (arith, number, long, one_more, c.from.ensures, c.if-from-share.false, room, spare),
+                        λ gift work may is_job is. (c.give_right-away.ensures.condition gift work).0 ((c.to_split.ensures.condition gift work).0 (c.requires.hook gift work (given_deeper c.args.share c.args.path left gift false left_is may) is_job is)),
+                      ),
+                    ),
                   ),
                 ),
               ),
             ),
           ),
         ),
-      ))),
+      ),
     )
 
 pub after_left-requires-clause-kept : goal.after_left-requires-clause-kept

@@ -13,8 +13,7 @@ returns-then-away-clause-walked g c = λ share node start first hl.
     let problem = c.args.self.now.problem.now in
     let bounds = c.args.self.now.bounds.now in
     let stands_at = g.T.View.context c.args.branch.now in
-    let mid : Heard = record { given = g.H.Hook.given c.args.hook.now; seen = g.H.Hook.seen c.args.hook.now; posted = g.H.Hook.posted c.args.hook.now } in
-    (
+    let mid : Heard = record { given = g.H.Hook.given c.args.hook.now; seen = g.H.Hook.seen c.args.hook.now; posted = g.H.Hook.posted c.args.hook.now } in (
       gave_away problem bounds share c.args.away c.args.right c.args.base c.args.state stands_at node start mid first c.args.tally.now hl c.if-away.true c.give.new.self (λ before t. c.give.ensures.tally bounds.list before t),
       λ going.
           let there = hl.stands going in
@@ -68,8 +67,7 @@ returns-in-Ok-clause-walked g c = λ share node start first hl.
     let mid : Heard = record { given = g.H.Hook.given c.args.hook.now; seen = g.H.Hook.seen c.args.hook.now; posted = g.H.Hook.posted c.args.hook.now } in
     let now : Heard = record { given = g.H.Hook.given c.subtree.new.hook; seen = g.H.Hook.seen c.subtree.new.hook; posted = g.H.Hook.posted c.subtree.new.hook } in
     let back_there = c.shrink_to.ensures hl.left (hl.stands c.in-Going.is).0 (hl.stands c.in-Going.is).1 hl.at_base in
-    let turned = c.in-Ok.ensures node (split_entry hl.split.l hl.split.kind SplitLeft) (back_there ∙ hl.split.is) in
-    (
+    let turned = c.in-Ok.ensures node (split_entry hl.split.l hl.split.kind SplitLeft) (back_there ∙ hl.split.is) in (
       walked_right problem bounds share c.args.away c.args.right c.args.base c.args.state stands_at node start mid first c.args.tally.now hl c.if-away.false c.in-Going.is (g.T.View.context c.turn_right.new.branch) turned c.subtree.result now c.subtree.new.tally (c.subtree.ensures.walked 0),
       λ going. (split_entry (complement hl.split.l) hl.split.kind SplitRight ∷ [], c.subtree.ensures.stands going ∙ turned),
     )
@@ -79,8 +77,7 @@ returns-in-Err-clause-walked g c = λ share node start first hl.
     let problem = c.args.self.now.problem.now in
     let bounds = c.args.self.now.bounds.now in
     let stands_at = g.T.View.context c.args.branch.now in
-    let mid : Heard = record { given = g.H.Hook.given c.args.hook.now; seen = g.H.Hook.seen c.args.hook.now; posted = g.H.Hook.posted c.args.hook.now } in
-    (
+    let mid : Heard = record { given = g.H.Hook.given c.args.hook.now; seen = g.H.Hook.seen c.args.hook.now; posted = g.H.Hook.posted c.args.hook.now } in (
       lost_right problem bounds share c.args.away c.args.right c.args.base c.args.state stands_at node start mid first c.args.tally.now hl c.if-away.false c.lose.new.self (λ before t. c.lose.ensures.tally bounds.list before c.args.right [] t),
       λ going. cc going,
     )
@@ -90,8 +87,7 @@ returns-in-Cutting-clause-walked g c = λ share node start first hl.
     let problem = c.args.self.now.problem.now in
     let bounds = c.args.self.now.bounds.now in
     let stands_at = g.T.View.context c.args.branch.now in
-    let mid : Heard = record { given = g.H.Hook.given c.args.hook.now; seen = g.H.Hook.seen c.args.hook.now; posted = g.H.Hook.posted c.args.hook.now } in
-    (
+    let mid : Heard = record { given = g.H.Hook.given c.args.hook.now; seen = g.H.Hook.seen c.args.hook.now; posted = g.H.Hook.posted c.args.hook.now } in (
       cut_right problem bounds share c.args.away c.args.right c.args.base c.args.state stands_at node start mid first c.args.tally.now hl c.if-away.false c.in-Cutting.key c.in-Cutting.is c.cut.new.self (λ before t. c.cut.ensures.tally bounds.list before c.args.right [] t),
       λ going. cc going,
     )
@@ -101,8 +97,7 @@ returns-in-Lost-clause-walked g c = λ share node start first hl.
     let problem = c.args.self.now.problem.now in
     let bounds = c.args.self.now.bounds.now in
     let stands_at = g.T.View.context c.args.branch.now in
-    let mid : Heard = record { given = g.H.Hook.given c.args.hook.now; seen = g.H.Hook.seen c.args.hook.now; posted = g.H.Hook.posted c.args.hook.now } in
-    (
+    let mid : Heard = record { given = g.H.Hook.given c.args.hook.now; seen = g.H.Hook.seen c.args.hook.now; posted = g.H.Hook.posted c.args.hook.now } in (
       lost_right problem bounds share c.args.away c.args.right c.args.base c.args.state stands_at node start mid first c.args.tally.now hl c.if-away.false c.lose-in-Lost.new.self (λ before t. c.lose-in-Lost.ensures.tally bounds.list before c.args.right [] t),
       λ going. cc going,
     )

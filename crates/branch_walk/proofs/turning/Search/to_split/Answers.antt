@@ -69,8 +69,7 @@ returns-in-Exhausted-clause-ended g c =
     let v = c.visit.ensures.visited in
     let O : Tally → Type 0 = λ t. IsOpen t in
     let w = walk_begins problem bounds from h c.down.tally d.leads.grown.0 d.leads.grown.1 (subst O (sym d.same) c.requires.open) in
-    let at = visited_at problem bounds from to c.down.tally c.visit.new.tally v.0 v.1 c.visit.result (visit.Exhausted c.in-Exhausted.key) c.in-Exhausted.is v.3 in
-    (
+    let at = visited_at problem bounds from to c.down.tally c.visit.new.tally v.0 v.1 c.visit.result (visit.Exhausted c.in-Exhausted.key) c.in-Exhausted.is v.3 in (
       λ share. lifted problem bounds context from first h now c.args.tally.now c.down.tally c.visit.new.tally (state.Cutting c.in-Exhausted.key) share d.told d.leads d.hears d.same (ends_exhausted problem bounds from h c.down.tally from h now c.down.tally c.visit.new.tally v.0 v.1 c.in-Exhausted.key w v.2 at.2 at.0 (λ leaves nodes t. sated_takes_cuts bounds.list c.visit.new.tally c.in-Exhausted.key nodes at.0.sated leaves t) share),
       sated_takes c.in-Exhausted.key c.visit.new.tally.last at.0.sated,
       λ is. cc is,
