@@ -1,10 +1,3 @@
-pub mod Back
-pub mod Ends
+pub mod AloneAnswers
 pub mod Evidences
-pub mod Joins
 pub mod KnownAnswers
-pub mod LeafSteps
-pub mod Onwards
-pub mod Reasons
-pub mod Walking
-pub mod Work

@@ -1,5 +1,1 @@
 pub mod Evidence
-pub mod Found
-pub mod Leaves
-pub mod Onward
-pub mod Turns

@@ -6,8 +6,8 @@ ghost use Rattle.me_terms.specs.AnswerViews.{answer_value};
 ghost use Rattle.me_counting.specs.FunctionFree.{IsFunctionFree, IsRoomy};
 ghost use Rattle.darwin_solve.specs.Evidence.{HasModel, HasRefutation, IsOverProblem, MeetsOnlyList};
 
-use crate::walk::walk;
-use me_context::Context;
+use branch_core::{Records, assemble};
+use branch_walk::walk_alone;
 use me_terms::{Answer, Bounds, Problem};
 use std::alloc::{AllocError, Global};
 
@@ -26,7 +26,10 @@ pub fn solve_alone(alloc: Global, problem: &Problem, bounds: &Bounds) -> Result<
     ensures function_free { IfOk result (λ answer. IsFunctionFree problem.now → IsRoomy problem.now bounds.now → MeetsOnlyList (answer_value answer)) }
     ensures printable { IfOk result (λ answer. IsOverProblem problem.now (answer_value answer)) }
 {
-    let mut branch = Context::new(alloc)?;
-    let found = walk(alloc, problem, bounds, &mut branch)?;
-    Ok(found.answer())
+    let record = walk_alone(alloc, problem, bounds)?;
+    let mut records = Records::new(alloc);
+    let Ok(()) = records.push(record) else {
+        return Err(AllocError);
+    };
+    assemble(alloc, &records, bounds.list)
 }

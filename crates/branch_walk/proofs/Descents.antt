@@ -1,0 +1,91 @@
+-- The walk from a context down to a Split, by Asserts.
+use Rattle.std.proofs.Common.{◌≡◌, ℕ, ◌<◌, Bool, List, [], ◌∷◌, ◌++◌, length, append-nil, append_assoc, refl, sym, subst, ap, ◌∙◌}
+use Rattle.me_terms.specs.Values.{ProblemValue, EntryValue}
+use Rattle.me_terms.specs.Context.{Context, add}
+use Rattle.me_terms.specs.Grown.{IsGrown, asserted}
+use Rattle.me_terms.specs.declared.bounds.Bounds.{Bounds}
+use Rattle.branch_core.specs.Paths.{Turns}
+use Rattle.branch_core.specs.Replaced.{Replaced}
+use Rattle.branch_core.specs.SearchTree.{SearchTree, IsSearchTree, asserts}
+use Rattle.branch_walk.specs.Jobs.{turns_taken, MayBeGiven}
+use Rattle.branch_walk.specs.Portions.{sat_keys, MayCut}
+use Rattle.branch_walk.specs.Tallies.{IsTally}
+use Rattle.branch_walk.specs.Walks.{Heard, Hears, IsVisited, IsWalked, LeadsTo, GoesOn}
+use Rattle.branch_walk.specs.declared.state.State.{State}
+use Rattle.branch_walk.specs.declared.state.State.TheVariants.{Going, Cutting, Lost}
+use Rattle.branch_walk.specs.declared.state.Visit.TheVariants as visit
+use Rattle.branch_walk.specs.declared.tally.Tally.{Tally}
+use Rattle.std.specs.List.{All}
+use Rattle.branch_walk.proofs.TurnsTaken.{turns_assert}
+use Rattle.branch_core.specs.Pieces.{Piece}
+use Rattle.branch_walk.proofs.Places.{in_right, may_more, replaced_more}
+use Rattle.branch_walk.proofs.Subtrees.{hears_none, hears_more, hears_sent}
+
+-- the node is reached from the context by Asserts, and nothing came to the tally
+pub record IsDescending (problem : ProblemValue) (bounds : Bounds) (context node : Context) (heard now_heard : Heard) (old new : Tally) : Type 0 where
+  pub told : List ℕ
+  pub leads : LeadsTo problem bounds context node
+  pub hears : Hears heard now_heard [] told []
+  pub same : new ≡ old
+  pub below : (later : Context) × (node ≡ context ++ later)
+
+module _ (problem : ProblemValue) (bounds : Bounds) (context : Context) (heard : Heard) (old : Tally) where
+  pub descent_begins : (positive : Bool) → IsGrown problem bounds positive context → IsDescending problem bounds context context heard heard old old
+  descent_begins positive grown = record {
+    told = [];
+    leads = record { grown = (positive, grown); turns = refl; tree = λ own h. h };
+    hears = hears_none heard;
+    same = refl;
+    below = ([], sym (append-nil context));
+  }
+
+  pub descends : (from to : Context) (h now : Heard) (was new : Tally) (told sent : List ℕ) → IsDescending problem bounds context from heard h old was → Hears h now [] told sent → IsVisited problem bounds from to was new told sent visit.Asserted → IsDescending problem bounds context to heard now old new
+  descends from to h now was new told sent d hears v =
+      let e = v.0 in
+      let next = v.1 in
+      let is = v.2 in
+      let positive = d.leads.grown.0 in
+      let G : Context → Type 0 = λ c. IsGrown problem bounds positive c in
+      record {
+        told = d.told ++ told;
+        leads = record {
+          grown = (positive, subst G (sym is) (asserted d.leads.grown.1 next));
+          turns = ap turns_taken is ∙ (turns_assert problem bounds from e next ∙ d.leads.turns);
+          tree = λ own tree. let S : Context → Type 0 = λ c. IsSearchTree problem bounds c own in d.leads.tree own (asserts next (subst S is tree));
+        };
+        hears = hears_more d.hears (hears_sent v.4 hears);
+        same = v.3 ∙ d.same;
+        below = (d.below.0 ++ e ∷ [], is ∙ (ap (λ (c : Context). add c e) d.below.1 ∙ append_assoc context d.below.0 (e ∷ [])));
+      }
+
+-- more keys may cut
+pub goes_more : (state : State) (told told' : List ℕ) (ps qs : List Piece) (turns : Turns) → ((k : ℕ) (t : Turns) → MayCut told ps k t → MayCut told' qs k t) → sat_keys qs ≡ sat_keys ps → GoesOn state told ps turns → GoesOn state told' qs turns
+goes_more Going told told' ps qs turns f same h = same ∙ h
+goes_more (Cutting cut_key) told told' ps qs turns f same h = λ other left. f cut_key other (h other left)
+goes_more Lost told told' ps qs turns f same h = tt
+
+-- what was walked at the node, which is reached from the context by Asserts, was walked at the context
+pub lifted : (problem : ProblemValue) (bounds : Bounds) (context node : Context) (heard h now : Heard) (old was new : Tally) (state : State) (share : ℕ) (told : List ℕ) → LeadsTo problem bounds context node → Hears heard h [] told [] → was ≡ old → IsWalked problem bounds share node state h now was new → IsWalked problem bounds share context state heard now old new
+lifted problem bounds context node heard h now old was new state share told leads hears same w =
+    let here = turns_taken context in
+    let P : Turns → Type 0 = λ t. Replaced (MayCut w.told w.more) t w.own w.more × All (MayBeGiven share t) w.gave × GoesOn state w.told w.more t in
+    let facts = subst P leads.turns (w.replaced, w.lawful, w.goes_on) in
+    let all_told = told ++ w.told in
+    let f = may_more w.told all_told w.more w.more (λ x i. in_right x told w.told i) (λ p i. i) in
+    let T : Tally → Type 0 = λ t. (before : List Piece) → IsTally bounds.list t before → IsTally bounds.list new (before ++ w.more) in
+    record {
+      own = w.own;
+      tree = leads.tree w.own w.tree;
+      more = w.more;
+      gave = w.gave;
+      told = all_told;
+      sent = w.sent;
+      hears = hears_more hears w.hears;
+      replaced = replaced_more f facts.0;
+      gifts_are = w.gifts_are;
+      lawful = facts.1;
+      sent_is = w.sent_is;
+      one_sat = w.one_sat;
+      goes_on = goes_more state w.told all_told w.more w.more here f refl facts.2;
+      tally = subst T same w.tally;
+    }

@@ -1,0 +1,46 @@
+-- What a visit of a node adds to the tally.
+use Rattle.std.proofs.Common.{◌≡◌, ℕ, Bool, List, [], ◌∷◌, ◌++◌, append-nil, refl, sym, subst, ap, ◌∙◌}
+use Rattle.me_terms.specs.Values.{ProblemValue, InstanceValue}
+use Rattle.me_terms.specs.Context.{Context}
+use Rattle.me_terms.specs.Grown.{IsGrown}
+use Rattle.me_terms.specs.LeafList.{IsLeafList}
+use Rattle.me_terms.specs.Next.{Close, Bounded, IsNext}
+use Rattle.me_terms.specs.Outcome as outcome
+use Rattle.me_terms.specs.declared.bounds.Bound.{Bound}
+use Rattle.me_terms.specs.declared.bounds.Bounds.{Bounds}
+use Rattle.me_laws.proofs.Backed.{grown_backed}
+use Rattle.me_existence.proofs.Outcomes.{leaf_list}
+use Rattle.branch_core.specs.Paths.{Turns}
+use Rattle.branch_core.specs.Pieces.{Piece}
+use Rattle.branch_core.specs.Pieces as piece
+use Rattle.branch_core.specs.SearchTree.{closes, is_bounded}
+use Rattle.branch_walk.specs.Tallies.{IsTally, IsOpen}
+use Rattle.branch_walk.specs.Walks.{Heard, Hears, HasLeaf}
+use Rattle.branch_walk.specs.declared.tally.Tally.{Tally}
+
+pub hears_then : {a b c : Heard} {told sent : List ℕ} → Hears a b [] told [] → Hears b c [] [] sent → Hears a c [] told sent
+hears_then {a} {b} {c} {told} {sent} f g = record {
+  given = g.given ∙ (ap (λ (x : List Turns). x ++ []) f.given ∙ append-nil (a.given ++ []));
+  seen = g.seen ∙ (ap (λ (x : List ℕ). x ++ []) f.seen ∙ append-nil (a.seen ++ told));
+  posted = g.posted ∙ (ap (λ (x : List ℕ). x ++ sent) f.posted ∙ ap (λ (x : List ℕ). x ++ sent) (append-nil a.posted));
+}
+
+pub closed_leaf : (problem : ProblemValue) (bounds : Bounds) (positive : Bool) (context : Context) → IsGrown problem bounds positive context → (c : ℕ) (tuple : List ℕ) → IsNext problem bounds context (Close c tuple) → (old new : Tally) → IsOpen new → ((leaves : List Piece) (list : List InstanceValue) → IsTally bounds.list old leaves → IsLeafList problem context c tuple list → IsTally bounds.list new (leaves ++ piece.Closed list ∷ [])) → HasLeaf problem bounds context old new
+closed_leaf problem bounds positive context grown c tuple next old new is_open adds =
+    let more = leaf_list problem bounds context (grown_backed grown) c tuple next.0 in
+    record {
+      outcome = outcome.Closed more.0;
+      tree = closes next more.1;
+      no_sat = refl;
+      is_open = is_open;
+      tally = λ before h. adds before more.0 h more.1;
+    }
+
+pub bounded_leaf : (problem : ProblemValue) (bounds : Bounds) (context : Context) (b : Bound) → IsNext problem bounds context (Bounded b) → (old new : Tally) → IsOpen new → ((n : ℕ) (leaves : List Piece) → IsTally n old leaves → IsTally n new (leaves ++ piece.Bounded b ∷ [])) → HasLeaf problem bounds context old new
+bounded_leaf problem bounds context b next old new is_open adds = record {
+  outcome = outcome.Met b;
+  tree = is_bounded next;
+  no_sat = refl;
+  is_open = is_open;
+  tally = λ before h. adds bounds.list before h;
+}

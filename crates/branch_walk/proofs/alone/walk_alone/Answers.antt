@@ -1,0 +1,31 @@
+use Rattle.std.proofs.Common.{◌≡◌, false, [], refl, sym, subst, ap, ◌∙◌}
+use Rattle.me_terms.specs.Context.{Context}
+use Rattle.me_terms.specs.Grown.{IsGrown, start, started}
+use Rattle.branch_core.specs.Paths.{Turns}
+use Rattle.branch_walk.specs.Jobs.{turns_taken}
+use Rattle.branch_walk.specs.Portions.{IsPortion}
+use Rattle.branch_walk.proofs.PortionEnds.{whole_alone}
+use Rattle.branch_walk.proofs.Spines.{none_given}
+use Rattle.branch_walk.proofs.TreesBelow.{tree_of}
+use Rattle.branch_walk.proofs.alone.walk_alone.Goals as goal
+
+pub walk_portion-requires-clause-job : goal.walk_portion-requires-clause-job
+walk_portion-requires-clause-job c =
+    let G : Context → Type 0 = λ x. IsGrown c.args.problem.now c.args.bounds.now false x in
+    record {
+      grown = (false, subst G (sym c.in_ok-branch.ensures) started);
+      turns = ap turns_taken c.in_ok-branch.ensures ∙ sym c.root-path.ensures;
+    }
+
+pub walk_portion-requires-clause-hook : goal.walk_portion-requires-clause-hook
+walk_portion-requires-clause-hook c = λ gift work may job is. none_given c.root-path.result gift may
+
+pub returns : goal.returns
+returns c =
+    let problem = c.args.problem.now in
+    let bounds = c.args.bounds.now in
+    let p = c.walk_portion.ensures.portion in
+    let t = tree_of problem bounds false (start false) started in
+    let G : Context → Type 0 = λ x. IsGrown problem bounds false x in
+    let I : Turns → Type 0 = λ path. IsPortion bounds.list 0 t.0 path p.0 p.2 p.1 c.walk_portion.result in
+    record { whole = whole_alone problem bounds c.walk_portion.result p.0 p.2 p.1 (sym p.3) (sym p.4) t.0 t.1 (subst I c.root-path.ensures (p.6 false t.0 (subst G (sym c.in_ok-branch.ensures) started) t.1)) }

@@ -1,0 +1,24 @@
+use Rattle.std.proofs.Common.{◌≡◌, ℕ, ◌∷◌, [], map, refl, sym, ap, ◌∙◌}
+use Rattle.branch_core.specs.Parts.{PartValue, RecordValue}
+use Rattle.branch_walk.specs.Walks.{Heard}
+use Rattle.branch_walk.proofs.PortionEnds.{portion}
+use Rattle.branch_walk.proofs.portion.walk_portion.Goals as goal
+
+pub returns-clause-portion : goal.returns-clause-portion
+returns-clause-portion g c =
+    let problem = c.args.problem.now in
+    let bounds = c.args.bounds.now in
+    let path = c.args.job.path in
+    let w = c.spine-state.ensures.walked in
+    let done = c.finish.ensures.pieces bounds.list w.more (w.tally [] (c.new-tally.ensures.tally bounds.list)) in
+    let first : Heard = record { given = g.H.Hook.given c.args.hook.now; seen = g.H.Hook.seen c.args.hook.now; posted = g.H.Hook.posted c.args.hook.now } in
+    let now : Heard = record { given = g.H.Hook.given c.spine-state.new.hook; seen = g.H.Hook.seen c.spine-state.new.hook; posted = g.H.Hook.posted c.spine-state.new.hook } in (
+      w.told,
+      w.sent,
+      w.gave,
+      w.hears.seen,
+      w.hears.given,
+      w.hears.posted,
+      λ positive search grown tree.
+          portion problem bounds c.args.share path (g.T.View.context c.args.job.branch) positive grown c.requires.job.turns c.spine-state.result first now c.new-tally.result c.spine-state.new.tally w done.0 done.1 _ (λ i. record { path = path; parts = done.2 i }) search tree,
+    )

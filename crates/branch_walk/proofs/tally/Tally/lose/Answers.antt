@@ -1,0 +1,12 @@
+use Rattle.std.proofs.Common.{◌∷◌, refl, sym, ◌∙◌}
+use Rattle.branch_walk.specs.Tallies.{losses}
+use Rattle.branch_walk.proofs.Tallied.{grows, sat_losses, loses}
+use Rattle.branch_walk.proofs.tally.Tally.lose.Goals as goal
+
+pub returns-then-is_sated-clause-tally : goal.returns-then-is_sated-clause-tally
+returns-then-is_sated-clause-tally c n leaves turns later h =
+    grows n c.args.self.now _ (losses (turns ∷ later)) refl (sat_losses n c.args.self.now.last (turns ∷ later) (sym c.is_sated.ensures ∙ c.if-is_sated.true)) leaves h
+
+pub returns-clause-tally : goal.returns-clause-tally
+returns-clause-tally c n leaves turns later h =
+    grows n c.args.self.now _ (losses (turns ∷ later)) refl (loses n c.args.self.now.last turns later (sym c.is_sated.ensures ∙ c.if-is_sated.false)) leaves h

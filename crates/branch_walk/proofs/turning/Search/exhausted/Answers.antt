@@ -1,0 +1,25 @@
+use Rattle.std.proofs.Common.{◌∷◌, [], append-nil, refl, sym, ◌∙◌}
+use Rattle.branch_walk.specs.Jobs.{turns_taken}
+use Rattle.branch_walk.proofs.turning.Search.exhausted.Goals as goal
+
+pub returns-in-Ok-clause-visited : goal.returns-in-Ok-clause-visited
+returns-in-Ok-clause-visited g c =
+    let context = g.T.View.context c.args.branch.now in
+    let list = c.args.self.now.bounds.now.list in (
+      c.node_key-key.result ∷ [],
+      record {
+        given = c.post.ensures.given ∙ sym (append-nil (g.H.Hook.given c.args.hook.now));
+        seen = c.post.ensures.seen ∙ sym (append-nil (g.H.Hook.seen c.args.hook.now));
+        posted = c.post.ensures.posted;
+      },
+      λ told. (
+        record {
+          next = c.requires.next;
+          key_is = c.node_key-key.ensures;
+          sated = c.in-Ok.ensures.sated;
+          tally = λ before h. c.in-Ok.ensures.tally list before (turns_taken context) h;
+        },
+        refl,
+        refl,
+      ),
+    )

@@ -1,0 +1,113 @@
+-- Tallies: what a walk has found so far, with neighbours joined.
+use Rattle.std.specs.Prelude.{◌≡◌, ◌+◌, ◌≤◌, ℕ, Bool, true, false, List, [], ◌∷◌, ◌++◌, map, length, Option, Some, None}
+use Rattle.branch_core.specs.Paths.{Turns}
+use Rattle.branch_core.specs.PartViews.{part_value}
+use Rattle.branch_core.specs.Pieces.{Piece}
+use Rattle.branch_core.specs.Pieces as piece
+use Rattle.branch_core.specs.Joined.{Joined}
+use Rattle.branch_core.specs.StandsFor.{part_of}
+use Rattle.branch_core.specs.SearchTree.{EachOnce}
+use Rattle.branch_core.specs.declared.part.Part.{Part}
+use Rattle.branch_core.specs.declared.part.Part.TheVariants.{Closed, Bounded, Sat, Gift, Cut, NoMemory}
+use Rattle.branch_walk.specs.declared.tally.Tally.{Tally}
+
+-- The Cuts of these nodes, with one key.
+abbrev pub cuts : ℕ → List Turns → List Piece
+cuts key nodes = map (λ turns. piece.Cut turns key) nodes
+
+-- These nodes are lost for want of memory.
+abbrev pub losses : List Turns → List Piece
+losses nodes = map (λ turns. piece.NoMemory) nodes
+
+-- What follows may be joined to the piece: it is no Gift, and the list of a closed one has each of its instances once.
+abbrev pub MayTakeMore : Piece → Type 0
+MayTakeMore (piece.Closed list) = EachOnce list
+MayTakeMore (piece.Bounded b) = Unit {0}
+MayTakeMore (piece.Sat turns context) = Unit {0}
+MayTakeMore (piece.Gift turns) = ⊥
+MayTakeMore (piece.Cut turns key) = Unit {0}
+MayTakeMore piece.NoMemory = Unit {0}
+
+-- The last part is that of the one piece of the list; there is none where the list is empty.
+abbrev pub IsLast : ℕ → Option Part → List Piece → Type 0
+IsLast list_bound None tail = tail ≡ []
+IsLast list_bound (Some part) tail = (one : Piece) × (tail ≡ one ∷ []) × (part_value part ≡ part_of list_bound one) × MayTakeMore one
+
+-- The tally has the parts of pieces to which the leaves are joined.
+pub record IsTally (list_bound : ℕ) (tally : Tally) (leaves : List Piece) : Type 0 where
+  pub earlier : List Piece
+  pub tail : List Piece
+  pub parts_are : map part_value tally.parts.items ≡ map (part_of list_bound) earlier
+  pub last_is : IsLast list_bound tally.last tail
+  pub joined : Joined leaves (earlier ++ tail)
+
+-- So many further parts fit with no allocation.
+abbrev pub HasRoom : ℕ → Tally → Type 0
+HasRoom n tally = n ≤ tally.parts.spare
+
+-- From the one tally to the other at most so many parts came to stand before the last one.
+pub record AddsAtMost (n : ℕ) (old new : Tally) : Type 0 where
+  pub few : length new.parts.items ≤ length old.parts.items + n
+  pub room : old.parts.spare ≤ new.parts.spare + n
+
+-- An own leaf can be joined to the part, or there is none.
+abbrev pub TakesLeaf : Option Part → Type 0
+TakesLeaf None = Unit {0}
+TakesLeaf (Some (Closed listed)) = Unit {0}
+TakesLeaf (Some (Bounded b)) = Unit {0}
+TakesLeaf (Some (Sat context)) = ⊥
+TakesLeaf (Some (Gift path)) = ⊥
+TakesLeaf (Some (Cut key)) = ⊥
+TakesLeaf (Some NoMemory) = ⊥
+
+-- A Cut with this key can be joined to the part, or can stand behind it.
+abbrev pub AllowsCut : ℕ → Option Part → Type 0
+AllowsCut key None = Unit {0}
+AllowsCut key (Some (Closed listed)) = Unit {0}
+AllowsCut key (Some (Bounded b)) = Unit {0}
+AllowsCut key (Some (Sat context)) = Unit {0}
+AllowsCut key (Some (Gift path)) = ⊥
+AllowsCut key (Some (Cut other)) = other ≡ key
+AllowsCut key (Some NoMemory) = ⊥
+
+-- The part is a bound that was met.
+abbrev pub is_bounded : Option Part → Bool
+is_bounded None = false
+is_bounded (Some (Closed listed)) = false
+is_bounded (Some (Bounded b)) = true
+is_bounded (Some (Sat context)) = false
+is_bounded (Some (Gift path)) = false
+is_bounded (Some (Cut key)) = false
+is_bounded (Some NoMemory) = false
+
+-- The part is an exhausted leaf's.
+abbrev pub is_sat : Option Part → Bool
+is_sat None = false
+is_sat (Some (Closed listed)) = false
+is_sat (Some (Bounded b)) = false
+is_sat (Some (Sat context)) = true
+is_sat (Some (Gift path)) = false
+is_sat (Some (Cut key)) = false
+is_sat (Some NoMemory) = false
+
+-- The part is an exhausted leaf's, or a Cut.
+abbrev pub is_sat_or_cut : Option Part → Bool
+is_sat_or_cut None = false
+is_sat_or_cut (Some (Closed listed)) = false
+is_sat_or_cut (Some (Bounded b)) = false
+is_sat_or_cut (Some (Sat context)) = true
+is_sat_or_cut (Some (Gift path)) = false
+is_sat_or_cut (Some (Cut key)) = true
+is_sat_or_cut (Some NoMemory) = false
+
+-- A tally that takes in an own leaf.
+abbrev pub IsOpen : Tally → Type 0
+IsOpen tally = TakesLeaf tally.last
+
+-- A tally that takes in a Cut with this key.
+abbrev pub TakesCut : ℕ → Tally → Type 0
+TakesCut key tally = AllowsCut key tally.last
+
+-- A tally whose last part is an exhausted leaf's.
+abbrev pub IsSated : Tally → Type 0
+IsSated tally = is_sat tally.last ≡ true

@@ -1,0 +1,24 @@
+//! The walk of a portion of the search tree.
+//!
+//! A portion is what one worker walks of the tree below a path. Its record lists what was found there, from
+//! left to right, with a place for each right child that was given away.
+#![tactic(auto)]
+
+mod alone;
+mod entries;
+mod hook_alone;
+mod job;
+mod listing;
+mod node_key;
+mod portion;
+mod spine;
+mod state;
+mod subtree;
+mod tally;
+mod turning;
+mod visiting;
+
+pub use alone::walk_alone;
+pub use job::Job;
+pub use next_rule::next_step;
+pub use portion::walk_portion;

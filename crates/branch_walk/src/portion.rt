@@ -1,0 +1,63 @@
+//! The walk of a portion, from left to right.
+//!
+//! Near its path it gives right children away; what comes back and all that lies deeper it walks itself.
+ghost use Rattle.std.specs.Prelude.{◌≡◌, ◌≤◌, ◌++◌, ◌∷◌, [], ℕ, Bool, List, false, length, IfOk};
+ghost use Rattle.std.specs.List.{All};
+ghost use Rattle.me_terms.specs.Validity.{IsLawful, IsValid};
+ghost use Rattle.me_terms.specs.Grown.{IsGrown, start};
+ghost use Rattle.branch_core.specs.Hooks.{SameGifts};
+ghost use Rattle.branch_core.specs.Paths.{Turns};
+ghost use Rattle.branch_core.specs.SearchTree.{SearchTree, IsSearchTree};
+ghost use Rattle.branch_core.specs.Whole.{AreWholeRecords};
+ghost use Rattle.branch_walk.specs.Jobs.{IsJob, MayBeGiven};
+ghost use Rattle.branch_walk.specs.Portions.{IsPortion};
+ghost use Rattle.branch_walk.specs.declared.job.Job.{Job as JobOf};
+
+use crate::job::Job;
+use crate::tally::Tally;
+use crate::turning::Search;
+use branch_core::{Hook, Parts, Record};
+use me_terms::{Bounds, Problem, Trunk};
+use std::alloc::{AllocError, Global};
+
+/// Walks a job's subtree from left to right, and hands back what it found there.
+///
+/// At a Split of a node with fewer than `share` turns the right child is given to the hook, and the walk
+/// goes on to the left; a right child that cannot be copied, or that comes back, is walked here, and nothing
+/// below it is given away. A node whose key is greater than the least key that the hook tells is dropped,
+/// with all to its right. After an exhausted leaf the rest is dropped too, and the leaf's key is posted.
+/// Want of memory is a part of the record. `room` is an empty list with room for 40 parts.
+pub fn walk_portion<T: Trunk, H: Hook<Job<T>>>(
+    alloc: Global,
+    problem: &Problem,
+    bounds: &Bounds,
+    share: u32,
+    job: Job<T>,
+    room: Parts,
+    hook: &mut H,
+) -> Record
+    requires valid { IsValid problem.now }
+    requires bounds { IsLawful bounds.now }
+    requires share { share ≤ 16 }
+    requires job { IsJob problem.now bounds.now job.path (T.context job.branch) }
+    requires empty { room.items ≡ [] }
+    requires room { 40 ≤ room.spare }
+    requires hook { (path : Turns) (work : JobOf T) → MayBeGiven share job.path path → IsJob problem.now bounds.now path (T.context work.branch) → work.path ≡ path → H.may_give hook.old path work }
+    ensures path { result.path ≡ job.path }
+    ensures few { length result.parts ≤ 40 }
+    ensures portion { (told posted : List ℕ) × (given : List Turns) × (H.seen hook.new ≡ H.seen hook.old ++ told) × (H.given hook.new ≡ H.given hook.old ++ given) × (H.posted hook.new ≡ H.posted hook.old ++ posted) × ((positive : Bool) (search : SearchTree) → IsGrown problem.now bounds.now positive (T.context job.branch) → IsSearchTree problem.now bounds.now (start positive) search → IsPortion bounds.now.list share search job.path told given posted result) }
+    ensures condition { SameGifts (H.may_give hook.old) (H.may_give hook.new) }
+{
+    let search = Search {
+        alloc,
+        problem,
+        bounds,
+    };
+    let Job { path, mut branch } = job;
+    let mut tally = Tally::new(room);
+    let _state = search.spine(share, path, &mut branch, &mut tally, hook);
+    Record {
+        path,
+        parts: tally.finish(),
+    }
+}

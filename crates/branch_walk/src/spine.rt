@@ -1,0 +1,205 @@
+//! The walk near the path of a job, which gives right children away.
+ghost use Rattle.std.specs.Prelude.{◌≡◌, ◌<◌, ◌≤◌, ◌+◌, ◌-◌, ◌*◌, ◌++◌, ◌∷◌, [], ℕ, Bool, true, false, List, length, IfOk, MatchOption, if◌then◌else◌};
+ghost use Rattle.me_terms.specs.Validity.{IsLawful, IsValid};
+ghost use Rattle.me_terms.specs.Context.{Context};
+ghost use Rattle.me_terms.specs.Grown.{IsGrown};
+ghost use Rattle.branch_core.specs.Hooks.{SameGifts};
+ghost use Rattle.branch_core.specs.Paths.{Turns};
+ghost use Rattle.branch_core.specs.Pieces.{Piece};
+ghost use Rattle.branch_walk.specs.Jobs.{IsJob, MayBeGiven, turns_taken};
+ghost use Rattle.branch_walk.specs.Tallies.{IsTally, AddsAtMost, HasRoom, IsOpen};
+ghost use Rattle.branch_walk.specs.Walks.{HasWalkedLeft, Hears, Heard, IsBeside, IsLeftOfSplit, IsReady, IsWalked, LeadsTo};
+ghost use Rattle.branch_walk.specs.declared.job.Job.{Job as JobOf};
+ghost use Rattle.branch_walk.specs.declared.state.State.TheVariants.{Going};
+ghost use Rattle.branch_walk.specs.declared.tally.Tally.{Tally as TallyOf};
+
+use crate::job::Job;
+use crate::state::{State, Visit};
+use crate::tally::Tally;
+use crate::turning::{Search, shrink_to};
+use branch_core::{Give, Hook, Path};
+use me_terms::Trunk;
+use std::alloc::AllocError;
+
+/// The number of turns.
+fn turn_count(path: Path) -> u8
+    ensures { result ≡ length path }
+{
+    path.len
+}
+
+/// The path of the left child.
+fn left_path(path: Path) -> Path
+    requires { length path < 16 }
+    ensures { result ≡ path ++ false ∷ [] }
+{
+    match path.left() {
+        Some(left) => left,
+        None => unreachable!(),
+    }
+}
+
+/// The path of the right child.
+fn right_path(path: Path) -> Path
+    requires { length path < 16 }
+    ensures { result ≡ path ++ true ∷ [] }
+{
+    match path.right() {
+        Some(right) => right,
+        None => unreachable!(),
+    }
+}
+
+impl<'a> Search<'a> {
+    /// Walks the tree of the branch's context, whose path it is. The right children of nodes of fewer than
+    /// `share` turns along left turns are given away.
+    pub(crate) fn spine<T: Trunk, H: Hook<Job<T>>>(
+        &self,
+        share: u32,
+        path: Path,
+        branch: &mut T,
+        tally: &mut Tally,
+        hook: &mut H,
+    ) -> State
+        requires valid { IsValid self.now.problem.now }
+        requires bounds { IsLawful self.now.bounds.now }
+        requires share { share ≤ 16 }
+        requires job { IsJob self.now.problem.now self.now.bounds.now path (T.context branch.old) }
+        requires open { IsOpen tally.old }
+        requires kept { (before : List Piece) × IsTally self.now.bounds.now.list tally.old before }
+        requires room { HasRoom (2 * (share - length path) + 1) tally.old }
+        requires hook { (gift : Turns) (work : JobOf T) → MayBeGiven share path gift → IsJob self.now.problem.now self.now.bounds.now gift (T.context work.branch) → work.path ≡ gift → H.may_give hook.old gift work }
+        ensures walked { IsWalked self.now.problem.now self.now.bounds.now share (T.context branch.old) result (record { given = H.given hook.old; seen = H.seen hook.old; posted = H.posted hook.old }) (record { given = H.given hook.new; seen = H.seen hook.new; posted = H.posted hook.new }) tally.old tally.new }
+        ensures ready { IsReady result tally.new }
+        ensures stands { result ≡ Going → (later : Context) × (T.context branch.new ≡ T.context branch.old ++ later) }
+        ensures pushes { AddsAtMost (2 * (share - length path) + 1) tally.old tally.new }
+        ensures condition { SameGifts (H.may_give hook.old) (H.may_give hook.new) }
+    {
+        if u32::from(turn_count(path)) >= share {
+            return self.subtree(branch, tally, hook);
+        }
+        if let Some(state) = self.to_split(branch, tally, hook) {
+            return state;
+        }
+        let left = left_path(path);
+        let right = right_path(path);
+        let base = branch.len();
+        let away = self.give_right(right, branch, hook);
+        let state = self.spine(share, left, branch, tally, hook);
+        self.after_left(away, state, right, base, branch, tally, hook)
+    }
+
+    /// Goes down by Asserts to a Split and enters its left branch, or tells how the walk ended before.
+    fn to_split<T: Trunk, H: Hook<Job<T>>>(
+        &self,
+        branch: &mut T,
+        tally: &mut Tally,
+        hook: &mut H,
+    ) -> Option<State>
+        requires valid { IsValid self.now.problem.now }
+        requires bounds { IsLawful self.now.bounds.now }
+        requires grown { (positive : Bool) × IsGrown self.now.problem.now self.now.bounds.now positive (T.context branch.old) }
+        requires open { IsOpen tally.old }
+        requires kept { (before : List Piece) × IsTally self.now.bounds.now.list tally.old before }
+        requires room { HasRoom 1 tally.old }
+        ensures ended { MatchOption result ((told : List ℕ) × (node : Context) × Hears (record { given = H.given hook.old; seen = H.seen hook.old; posted = H.posted hook.old }) (record { given = H.given hook.new; seen = H.seen hook.new; posted = H.posted hook.new }) [] told [] × LeadsTo self.now.problem.now self.now.bounds.now (T.context branch.old) node × IsLeftOfSplit self.now.problem.now self.now.bounds.now node (T.context branch.new) × (tally.new ≡ tally.old) × ((later : Context) × (node ≡ T.context branch.old ++ later))) (λ state. ((share : ℕ) → IsWalked self.now.problem.now self.now.bounds.now share (T.context branch.old) state (record { given = H.given hook.old; seen = H.seen hook.old; posted = H.posted hook.old }) (record { given = H.given hook.new; seen = H.seen hook.new; posted = H.posted hook.new }) tally.old tally.new) × IsReady state tally.new × (state ≡ Going → (later : Context) × (T.context branch.new ≡ T.context branch.old ++ later))) }
+        ensures pushes { AddsAtMost 1 tally.old tally.new }
+        ensures condition { SameGifts (H.may_give hook.old) (H.may_give hook.new) }
+    {
+        'down: loop {
+            match self.visit(branch, tally, hook) {
+                Visit::Asserted => {}
+                Visit::Left => return None,
+                Visit::Leaf => return Some(State::Going),
+                Visit::Exhausted { key } => return Some(State::Cutting { key }),
+                Visit::Cut { key } => {
+                    tally.cut(key);
+                    return Some(State::Cutting { key });
+                }
+                Visit::Lost => {
+                    tally.lose();
+                    return Some(State::Lost);
+                }
+            }
+        }
+    }
+
+    /// Gives away the right branch beside the left one that the last entry begins; tells whether it went.
+    fn give_right<T: Trunk, H: Hook<Job<T>>>(&self, right: Path, branch: &T, hook: &mut H) -> bool
+        requires bounds { IsLawful self.now.bounds.now }
+        requires beside { IsBeside self.now.problem.now self.now.bounds.now right (T.context branch.now) }
+        requires hook { (work : JobOf T) → IsJob self.now.problem.now self.now.bounds.now right (T.context work.branch) → work.path ≡ right → H.may_give hook.old right work }
+        ensures given { H.given hook.new ≡ (if result then H.given hook.old ++ right ∷ [] else H.given hook.old) }
+        ensures seen { H.seen hook.new ≡ H.seen hook.old }
+        ensures posted { H.posted hook.new ≡ H.posted hook.old }
+        ensures condition { SameGifts (H.may_give hook.old) (H.may_give hook.new) }
+    {
+        match self.right_job(right, branch) {
+            Ok(job) => matches!(&hook.give(right, job), Give::Away),
+            Err(AllocError) => false,
+        }
+    }
+
+    /// The job of the right branch beside the left one that the last entry begins.
+    fn right_job<T: Trunk>(&self, right: Path, branch: &T) -> Result<Job<T>, AllocError>
+        requires bounds { IsLawful self.now.bounds.now }
+        requires beside { IsBeside self.now.problem.now self.now.bounds.now right (T.context branch.now) }
+        ensures { IfOk result (λ job. IsJob self.now.problem.now self.now.bounds.now right (T.context job.branch) × (job.path ≡ right)) }
+    {
+        let mut branch = branch.again(self.alloc)?;
+        self.turn_right(&mut branch)?;
+        Ok(Job {
+            path: right,
+            branch,
+        })
+    }
+
+    /// After the walk of a left branch that ended in the state: notes the right child that was given away,
+    /// or walks it, or leaves it out.
+    fn after_left<T: Trunk, H: Hook<Job<T>>>(
+        &self,
+        away: bool,
+        state: State,
+        right: Path,
+        base: u32,
+        branch: &mut T,
+        tally: &mut Tally,
+        hook: &mut H,
+    ) -> State
+        requires valid { IsValid self.now.problem.now }
+        requires bounds { IsLawful self.now.bounds.now }
+        requires ready { IsReady state tally.old }
+        requires kept { (before : List Piece) × IsTally self.now.bounds.now.list tally.old before }
+        requires room { HasRoom 2 tally.old }
+        requires left { (share : ℕ) × (node : Context) × (start : Heard) × (first : TallyOf) × HasWalkedLeft self.now.problem.now self.now.bounds.now share away right base state (T.context branch.old) node start (record { given = H.given hook.old; seen = H.seen hook.old; posted = H.posted hook.old }) first tally.old }
+        ensures walked { (share : ℕ) (node : Context) (start : Heard) (first : TallyOf) → HasWalkedLeft self.now.problem.now self.now.bounds.now share away right base state (T.context branch.old) node start (record { given = H.given hook.old; seen = H.seen hook.old; posted = H.posted hook.old }) first tally.old → IsWalked self.now.problem.now self.now.bounds.now share node result start (record { given = H.given hook.new; seen = H.seen hook.new; posted = H.posted hook.new }) first tally.new × (result ≡ Going → (later : Context) × (T.context branch.new ≡ node ++ later)) }
+        ensures ready { IsReady result tally.new }
+        ensures pushes { AddsAtMost 2 tally.old tally.new }
+        ensures condition { SameGifts (H.may_give hook.old) (H.may_give hook.new) }
+    {
+        if away {
+            tally.give(right);
+            return state;
+        }
+        match state {
+            State::Going => {
+                shrink_to(branch, base);
+                match self.turn_right(branch) {
+                    Ok(()) => self.subtree(branch, tally, hook),
+                    Err(AllocError) => {
+                        tally.lose();
+                        State::Lost
+                    }
+                }
+            }
+            State::Cutting { key } => {
+                tally.cut(key);
+                State::Cutting { key }
+            }
+            State::Lost => {
+                tally.lose();
+                State::Lost
+            }
+        }
+    }
+}

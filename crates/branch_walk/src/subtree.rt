@@ -1,0 +1,71 @@
+//! The walk of a whole tree without gifts, leaf by leaf and without recursion.
+//!
+//! The entries of the branch tell what is left to do: beside each entry of a left branch stands a right
+//! branch that was not gone yet.
+ghost use Rattle.std.specs.Prelude.{◌≡◌, ◌≤◌, [], ℕ, Bool, List};
+ghost use Rattle.me_terms.specs.Validity.{IsLawful, IsValid};
+ghost use Rattle.me_terms.specs.Grown.{IsGrown};
+ghost use Rattle.branch_core.specs.Hooks.{SameGifts};
+ghost use Rattle.branch_core.specs.Pieces.{Piece};
+ghost use Rattle.branch_walk.specs.Tallies.{IsTally, AddsAtMost, HasRoom, IsOpen};
+ghost use Rattle.branch_walk.specs.Walks.{IsReady, IsWalked};
+ghost use Rattle.branch_walk.specs.declared.state.State.TheVariants.{Going};
+
+use crate::job::Job;
+use crate::state::{State, Visit};
+use crate::tally::Tally;
+use crate::turning::{Search, back};
+use branch_core::Hook;
+use me_terms::Trunk;
+use std::alloc::AllocError;
+
+impl<'a> Search<'a> {
+    /// Walks the tree of the branch's context. Where it was walked to the end, the branch is as before.
+    pub(crate) fn subtree<T: Trunk, H: Hook<Job<T>>>(
+        &self,
+        branch: &mut T,
+        tally: &mut Tally,
+        hook: &mut H,
+    ) -> State
+        requires valid { IsValid self.now.problem.now }
+        requires bounds { IsLawful self.now.bounds.now }
+        requires grown { (positive : Bool) × IsGrown self.now.problem.now self.now.bounds.now positive (T.context branch.old) }
+        requires open { IsOpen tally.old }
+        requires kept { (before : List Piece) × IsTally self.now.bounds.now.list tally.old before }
+        requires room { HasRoom 1 tally.old }
+        ensures walked { (share : ℕ) → IsWalked self.now.problem.now self.now.bounds.now share (T.context branch.old) result (record { given = H.given hook.old; seen = H.seen hook.old; posted = H.posted hook.old }) (record { given = H.given hook.new; seen = H.seen hook.new; posted = H.posted hook.new }) tally.old tally.new }
+        ensures ready { IsReady result tally.new }
+        ensures stands { result ≡ Going → T.context branch.new ≡ T.context branch.old }
+        ensures pushes { AddsAtMost 1 tally.old tally.new }
+        ensures condition { SameGifts (H.may_give hook.old) (H.may_give hook.new) }
+    {
+        let base = branch.len();
+        'walk: loop {
+            match self.visit(branch, tally, hook) {
+                Visit::Asserted => {}
+                Visit::Left => {}
+                Visit::Leaf => {
+                    if !back(branch, base) {
+                        return State::Going;
+                    }
+                    match self.turn_right(branch) {
+                        Ok(()) => {}
+                        Err(AllocError) => {
+                            tally.lose();
+                            return State::Lost;
+                        }
+                    }
+                }
+                Visit::Exhausted { key } => return State::Cutting { key },
+                Visit::Cut { key } => {
+                    tally.cut(key);
+                    return State::Cutting { key };
+                }
+                Visit::Lost => {
+                    tally.lose();
+                    return State::Lost;
+                }
+            }
+        }
+    }
+}

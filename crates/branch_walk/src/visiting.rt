@@ -1,0 +1,121 @@
+//! The visit of a node: what is done next there.
+ghost use Rattle.std.specs.Prelude.{◌≡◌, ◌<◌, ◌≤◌, [], ℕ, Bool, List, OnOk};
+ghost use Rattle.me_terms.specs.AnswerViews.{next_value};
+ghost use Rattle.me_terms.specs.Values.{EntryValue};
+ghost use Rattle.me_terms.specs.Validity.{IsLawful, IsValid};
+ghost use Rattle.me_terms.specs.Grown.{IsGrown};
+ghost use Rattle.me_terms.specs.Next.{IsNext, Exhausted};
+ghost use Rattle.next_rule.specs.NextLaws.{IsAddedBy, MayBeAdded};
+ghost use Rattle.branch_core.specs.Hooks.{SameGifts};
+ghost use Rattle.branch_core.specs.Pieces.{Piece};
+ghost use Rattle.branch_walk.specs.Tallies.{IsTally, AddsAtMost, IsOpen};
+ghost use Rattle.branch_walk.specs.Walks.{Hears, IsVisited};
+
+use crate::job::Job;
+use crate::node_key::{node_key, told_cut};
+use crate::state::Visit;
+use crate::tally::Tally;
+use crate::turning::{Search, grow, left_entry};
+use branch_core::Hook;
+use me_terms::{Next, Trunk};
+use next_rule::next_step;
+use std::alloc::AllocError;
+
+impl<'a> Search<'a> {
+    /// Does what is next at the branch's node, unless a smaller key than the node's was told.
+    pub(crate) fn visit<T: Trunk, H: Hook<Job<T>>>(
+        &self,
+        branch: &mut T,
+        tally: &mut Tally,
+        hook: &mut H,
+    ) -> Visit
+        requires valid { IsValid self.now.problem.now }
+        requires bounds { IsLawful self.now.bounds.now }
+        requires grown { (positive : Bool) × IsGrown self.now.problem.now self.now.bounds.now positive (T.context branch.old) }
+        requires open { IsOpen tally.old }
+        requires kept { (before : List Piece) × IsTally self.now.bounds.now.list tally.old before }
+        ensures visited { (told sent : List ℕ) × Hears (record { given = H.given hook.old; seen = H.seen hook.old; posted = H.posted hook.old }) (record { given = H.given hook.new; seen = H.seen hook.new; posted = H.posted hook.new }) [] told sent × IsVisited self.now.problem.now self.now.bounds.now (T.context branch.old) (T.context branch.new) tally.old tally.new told sent result }
+        ensures pushes { AddsAtMost 0 tally.old tally.new }
+        ensures condition { SameGifts (H.may_give hook.old) (H.may_give hook.new) }
+    {
+        if let Some(key) = told_cut(branch, hook) {
+            return Visit::Cut { key };
+        }
+        match next_step(self.alloc, self.problem, branch, self.bounds) {
+            Ok(next) => self.enter(next, branch, tally, hook),
+            Err(AllocError) => Visit::Lost,
+        }
+    }
+
+    /// Does the next step.
+    fn enter<T: Trunk, H: Hook<Job<T>>>(
+        &self,
+        next: Next,
+        branch: &mut T,
+        tally: &mut Tally,
+        hook: &mut H,
+    ) -> Visit
+        requires valid { IsValid self.now.problem.now }
+        requires bounds { IsLawful self.now.bounds.now }
+        requires grown { (positive : Bool) × IsGrown self.now.problem.now self.now.bounds.now positive (T.context branch.old) }
+        requires open { IsOpen tally.old }
+        requires kept { (before : List Piece) × IsTally self.now.bounds.now.list tally.old before }
+        requires next { IsNext self.now.problem.now self.now.bounds.now (T.context branch.old) (next_value next) }
+        requires added { (e : EntryValue) → IsAddedBy (next_value next) e → MayBeAdded self.now.bounds.now (T.context branch.old) e }
+        ensures visited { (sent : List ℕ) × Hears (record { given = H.given hook.old; seen = H.seen hook.old; posted = H.posted hook.old }) (record { given = H.given hook.new; seen = H.seen hook.new; posted = H.posted hook.new }) [] [] sent × ((told : List ℕ) → IsVisited self.now.problem.now self.now.bounds.now (T.context branch.old) (T.context branch.new) tally.old tally.new told sent result) }
+        ensures pushes { AddsAtMost 0 tally.old tally.new }
+        ensures condition { SameGifts (H.may_give hook.old) (H.may_give hook.new) }
+    {
+        match next {
+            Next::Assert { entry } => match grow(branch, entry) {
+                Ok(()) => Visit::Asserted,
+                Err(AllocError) => Visit::Lost,
+            },
+            Next::Split { literal, kind } => match grow(branch, left_entry(literal, kind)) {
+                Ok(()) => Visit::Left,
+                Err(AllocError) => Visit::Lost,
+            },
+            Next::Close { clause, tuple } => {
+                match tally.add_closed(
+                    self.alloc,
+                    self.problem,
+                    self.bounds,
+                    branch,
+                    clause,
+                    &tuple,
+                ) {
+                    Ok(()) => Visit::Leaf,
+                    Err(AllocError) => Visit::Lost,
+                }
+            }
+            Next::Bounded { bound } => {
+                tally.add_bound(bound);
+                Visit::Leaf
+            }
+            Next::Exhausted => self.exhausted(branch, tally, hook),
+        }
+    }
+
+    /// Adds the branch's context, at which nothing is left to do, and posts its key.
+    fn exhausted<T: Trunk, H: Hook<Job<T>>>(
+        &self,
+        branch: &T,
+        tally: &mut Tally,
+        hook: &mut H,
+    ) -> Visit
+        requires open { IsOpen tally.old }
+        requires next { IsNext self.now.problem.now self.now.bounds.now (T.context branch.now) Exhausted }
+        ensures visited { (sent : List ℕ) × Hears (record { given = H.given hook.old; seen = H.seen hook.old; posted = H.posted hook.old }) (record { given = H.given hook.new; seen = H.seen hook.new; posted = H.posted hook.new }) [] [] sent × ((told : List ℕ) → IsVisited self.now.problem.now self.now.bounds.now (T.context branch.now) (T.context branch.now) tally.old tally.new told sent result) }
+        ensures pushes { AddsAtMost 0 tally.old tally.new }
+        ensures condition { SameGifts (H.may_give hook.old) (H.may_give hook.new) }
+    {
+        match tally.add_sat(self.alloc, branch) {
+            Ok(()) => {
+                let key = node_key(branch);
+                hook.post(key);
+                Visit::Exhausted { key }
+            }
+            Err(AllocError) => Visit::Lost,
+        }
+    }
+}
