@@ -11,3 +11,6 @@ mod tally;
 
 pub use job::Job;
 pub use next_rule::next_step;
+
+#[cfg(test)]
+mod tally_tests;
