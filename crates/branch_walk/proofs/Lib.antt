@@ -1,4 +1,5 @@
 pub mod JoinedRuns
 pub mod ListedLists
+pub mod Steps
 pub mod Survivors
 pub mod Tallied

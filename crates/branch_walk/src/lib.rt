@@ -4,9 +4,11 @@
 //! left to right, with a place for each right child that was given away.
 #![tactic(auto)]
 
+mod alone_hook;
 mod entries;
 mod job;
 mod listing;
+mod notes;
 mod tally;
 
 pub use job::Job;
