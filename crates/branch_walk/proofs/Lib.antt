@@ -10,6 +10,7 @@ pub mod PortionEnds
 pub mod Pushes
 pub mod Reasons
 pub mod Spines
+pub mod Steps
 pub mod Subtrees
 pub mod Survivors
 pub mod Tallied

@@ -3,7 +3,7 @@ ghost use Rattle.std.specs.Prelude.{◌∷◌, [], false, IfOk};
 ghost use Rattle.me_terms.specs.Validity.{IsLawful, IsValid};
 ghost use Rattle.branch_core.specs.Whole.{AreWholeRecords};
 
-use crate::hook_alone::Alone;
+use crate::alone_hook::Alone;
 use crate::job::Job;
 use crate::portion::walk_portion;
 use branch_core::{Parts, Path, Record};

@@ -11,6 +11,14 @@ pub(crate) struct Alone {
     pub(crate) notes: Notes,
 }
 
+impl Alone {
+    pub(crate) fn new() -> Self {
+        Alone {
+            notes: Notes::blank(),
+        }
+    }
+}
+
 impl<J> Hook<J> for Alone {
     ghost given = { λ _. [] };
 

@@ -5,11 +5,12 @@
 #![tactic(auto)]
 
 mod alone;
+mod alone_hook;
 mod entries;
-mod hook_alone;
 mod job;
 mod listing;
 mod node_key;
+mod notes;
 mod portion;
 mod spine;
 mod state;
@@ -22,3 +23,6 @@ pub use alone::walk_alone;
 pub use job::Job;
 pub use next_rule::next_step;
 pub use portion::walk_portion;
+
+#[cfg(test)]
+mod tally_tests;

@@ -1,5 +1,5 @@
 -- The steps of a cursor over the tuples of a clause.
-use Rattle.std.proofs.Common.{◌≡◌, ℕ, ◌<◌, Bool, List, length, Option, Some, None, refl, sym, subst, ap, ◌∙◌}
+use Rattle.std.proofs.Common.{◌≡◌, ℕ, ◌<◌, List, length, Option, Some, None, refl, sym, subst, ap, ◌∙◌}
 use Rattle.std.proofs.lemmas.Option.{same_Some}
 use Rattle.me_terms.specs.Context.{Context}
 use Rattle.me_terms.specs.declared.atom.Literal.{Literal}
@@ -56,18 +56,21 @@ module _ (context : Context) (literals : List Literal) (skip most : Option ℕ) 
         };
       }
 
-  -- the first tuple to which a new cursor goes
-  pub first_of : (cursor next : CursorValue) (written : List Literal) → cursor ≡ cursor_at context written skip whole None → written ≡ literals → IsAdvanced cursor next → (t : List ℕ) → next.at ≡ Some t → IsNextTuple context literals skip whole None t
-  first_of cursor next written e same found t at =
-      let over = cursor_begun cursor written e same in
-      let moves = advances cursor next over found in
-      let first : IsNextTuple context literals skip whole cursor.at moves.tuple = moves.is_next in
-      let is : moves.tuple ≡ t = same_Some moves.tuple t (sym moves.stands ∙ at) in
-      let none : cursor.at ≡ None = ap (λ (z : CursorValue). z.at) e in
-      let P : Option (List ℕ) × List ℕ → Type 0 = λ z. IsNextTuple context literals skip whole z.0 z.1 in
-      subst P (λ i. (none i, is i)) first
+  -- a cursor with another bound stands where it stood
+  pub limited : (old new : CursorValue) (least : Option ℕ) → IsCursor context literals skip most old → new ≡ record old { most = least } → IsCursor context literals skip least new
+  limited old new least over e =
+      let stands : new.at ≡ old.at = ap (λ (z : CursorValue). z.at) e in
+      let P : Option (List ℕ) → Type 0 = λ z. StandsAtOne context literals skip z in
+      record {
+        same = e ∙ (ap (λ (z : CursorValue). record z { most = least }) over.same ∙ ap (λ (z : Option (List ℕ)). cursor_at context literals skip least z) (sym stands));
+        stands_at_one = subst P (sym stands) over.stands_at_one;
+      }
 
-  pub no_more : (cursor : CursorValue) → IsCursor context literals skip whole cursor → IsAtEnd cursor → IsLastTuple context literals skip whole cursor.at
+  -- the bound may be written otherwise
+  pub limited_to : (old new : CursorValue) (written least : Option ℕ) → new ≡ record old { most = written } → written ≡ least → new ≡ record old { most = least }
+  limited_to old new written least e same = let P : Option ℕ → Type 0 = λ z. new ≡ record old { most = z } in subst P same e
+
+  pub no_more : (cursor : CursorValue) → IsCursor context literals skip most cursor → IsAtEnd cursor → IsLastTuple context literals skip most cursor.at
   no_more cursor over h = let P : CursorValue → Type 0 = λ z. IsAtEnd z in subst P over.same h
 
   pub none_at_all : (cursor : CursorValue) (written : List Literal) → cursor ≡ cursor_at context written skip most None → written ≡ literals → IsAtEnd cursor → IsLastTuple context literals skip most None
