@@ -328,3 +328,8 @@ returns-clause-pushes g t c =
       few = omega (arith, number, long, one_more, c.from.ensures, c.if-from-share.false, count, f, f');
       room = omega (arith, number, long, one_more, c.from.ensures, c.if-from-share.false, spare, r, r');
     }
+
+pub returns-clause-quiet : goal.returns-clause-quiet
+returns-clause-quiet g t c = λ le unheard.
+    let number = c.turn_count.ensures in
+    absurd (omega (arith, le, number, c.from.ensures, c.if-from-share.false))
