@@ -1,5 +1,5 @@
 -- A record of at most one part, with nothing told and nothing given, has no Cut.
-use Rattle.std.proofs.Common.{◌≡◌, ℕ, zero, suc, ◌≤◌, List, [], ◌∷◌, ◌++◌, length, map, slice_get, Some, inl, inr, refl, sym, subst, ap, ◌∙◌, arith, length-append}
+use Rattle.std.proofs.Common.{◌≡◌, ℕ, ◌≤◌, List, [], ◌∷◌, ◌++◌, length, map, inl, inr, sym, subst, ap, ◌∙◌, arith, length-append}
 use Rattle.std.specs.List.{All}
 use Rattle.std.proofs.lemmas.List.Elements.{All-cons, All-nil}
 use Rattle.me_terms.specs.Context.{Context}
@@ -86,10 +86,10 @@ no_cut_alone (Gift turns) told path own leaves none r j = tt
 no_cut_alone (Cut turns k) told path own leaves none r j =
     let never : (key : ℕ) (t : Turns) → MayCut told (Cut turns k ∷ []) key t → ⊥ =
     λ key t may.
-        elim may as (λ _. ⊥) [
-          | inl a ↦ let P : List ℕ → Type 0 = λ ks. IsIn key ks in let there = subst P none a.0 in none_at key there.0 there.1
-          | inr b ↦ sat_no_cut b.0 turns b.1 k b.2
-        ] in
+    elim may as (λ _. ⊥) [
+      | inl a ↦ let P : List ℕ → Type 0 = λ ks. IsIn key ks in let there = subst P none a.0 in none_at key there.0 there.1
+      | inr b ↦ sat_no_cut b.0 turns b.1 k b.2
+    ] in
     (joined_no_cut j (replaced_no_cut never r)).0
 no_cut_alone NoMemory told path own leaves none r j = tt
 

@@ -15,7 +15,7 @@ use Rattle.branch_core.specs.StandsFor.{Account, record_of, StandsFor}
 use Rattle.branch_core.specs.Whole.{IsIn, IsLicensed, AreWhole, AreWholeRecords}
 use Rattle.std.specs.List.{All}
 use Rattle.branch_walk.specs.Jobs.{turns_taken, MayBeGiven}
-use Rattle.branch_walk.specs.Portions.{gift_of, gifts, sat_keys, MayCut, IsPortion}
+use Rattle.branch_walk.specs.Portions.{gift_of, gifts, MayCut, IsPortion}
 use Rattle.branch_walk.specs.Walks.{Heard, IsWalked}
 use Rattle.branch_walk.specs.declared.state.State.{State}
 use Rattle.branch_walk.specs.declared.tally.Tally.{Tally}

@@ -1,4 +1,4 @@
-use Rattle.std.proofs.Common.{◌≡◌, false, [], refl, sym, subst, ap, ◌∙◌}
+use Rattle.std.proofs.Common.{false, refl, sym, subst, ap, ◌∙◌}
 use Rattle.me_terms.specs.Context.{Context}
 use Rattle.me_terms.specs.Grown.{IsGrown, start, started}
 use Rattle.branch_core.specs.Paths.{Turns}

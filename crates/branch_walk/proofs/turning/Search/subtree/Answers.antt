@@ -1,8 +1,8 @@
-use Rattle.std.proofs.Common.{ℕ, ◌≤◌, Bool, List, ◌∷◌, ◌++◌, length, sym, subst, ◌∙◌, arith}
+use Rattle.std.proofs.Common.{ℕ, ◌≤◌, Bool, List, ◌∷◌, ◌++◌, length, sym, subst, arith}
 use Rattle.me_terms.specs.Context.{Context}
 use Rattle.branch_core.specs.Pieces.{Piece}
 use Rattle.branch_walk.specs.Tallies.{IsTally, cuts, losses}
-use Rattle.branch_walk.specs.Turning.{IsAllBack, IsBackAtLeft, beside}
+use Rattle.branch_walk.specs.Turning.{IsAllBack, IsBackAtLeft}
 use Rattle.branch_walk.specs.Walks.{Heard}
 use Rattle.branch_core.specs.Paths.{Turns}
 use Rattle.branch_walk.specs.declared.state.Visit.TheVariants as visit
