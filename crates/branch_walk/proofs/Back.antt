@@ -1,5 +1,5 @@
 -- How a walk goes back along its branch.
-use Rattle.std.proofs.Common.{◌≡◌, ℕ, ◌<◌, ◌≤◌, Bool, true, false, IsTrue, not, ◌↔◌, [], ◌∷◌, ◌++◌, length, length-append, append-nil, append_assoc, refl, sym, subst, ap, ◌∙◌, arith}
+use Rattle.std.proofs.Common.{◌≡◌, ℕ, ◌<◌, ◌≤◌, Bool, true, false, IsTrue, not, ◌↔◌, [], ◌∷◌, ◌++◌, length, length-append, append-nil, append_assoc, refl, sym, ap, ◌∙◌, arith}
 use Rattle.me_terms.specs.Values.{EntryValue, SplitLeft}
 use Rattle.me_terms.specs.Context.{Context, add}
 use Rattle.branch_walk.specs.Turning.{AreNotLeft, IsAllBack, IsBackAtLeft}

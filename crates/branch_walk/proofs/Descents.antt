@@ -1,12 +1,12 @@
 -- The walk from a context down to a Split, by Asserts.
-use Rattle.std.proofs.Common.{◌≡◌, ℕ, ◌<◌, Bool, List, [], ◌∷◌, ◌++◌, length, append-nil, append_assoc, refl, sym, subst, ap, ◌∙◌}
-use Rattle.me_terms.specs.Values.{ProblemValue, EntryValue}
+use Rattle.std.proofs.Common.{◌≡◌, ℕ, Bool, List, [], ◌∷◌, ◌++◌, append-nil, append_assoc, refl, sym, subst, ap, ◌∙◌}
+use Rattle.me_terms.specs.Values.{ProblemValue}
 use Rattle.me_terms.specs.Context.{Context, add}
 use Rattle.me_terms.specs.Grown.{IsGrown, asserted}
 use Rattle.me_terms.specs.declared.bounds.Bounds.{Bounds}
 use Rattle.branch_core.specs.Paths.{Turns}
 use Rattle.branch_core.specs.Replaced.{Replaced}
-use Rattle.branch_core.specs.SearchTree.{SearchTree, IsSearchTree, asserts}
+use Rattle.branch_core.specs.SearchTree.{IsSearchTree, asserts}
 use Rattle.branch_walk.specs.Jobs.{turns_taken, MayBeGiven}
 use Rattle.branch_walk.specs.Portions.{sat_keys, MayCut}
 use Rattle.branch_walk.specs.Tallies.{IsTally}

@@ -1,5 +1,5 @@
 -- Left and right of nodes, and what that says of keys.
-use Rattle.std.proofs.Common.{◌≡◌, ℕ, zero, suc, ◌+◌, ◌*◌, ◌^◌, ◌<◌, ◌≤◌, Bool, true, false, List, [], ◌∷◌, ◌++◌, append-nil, subst, arith}
+use Rattle.std.proofs.Common.{◌≡◌, ℕ, zero, suc, ◌*◌, ◌^◌, ◌<◌, ◌≤◌, true, false, [], ◌∷◌, ◌++◌, append-nil, subst, arith}
 use Rattle.branch_core.specs.Paths.{Turns, key_bits, key, IsLeftOf}
 use Rattle.branch_core.proofs.PathOrder.{more_right}
 

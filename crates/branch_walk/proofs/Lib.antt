@@ -5,6 +5,7 @@ pub mod JoinedRuns
 pub mod LeftRight
 pub mod ListedLists
 pub mod NodeKeys
+pub mod OwnParts
 pub mod Places
 pub mod PortionEnds
 pub mod Pushes

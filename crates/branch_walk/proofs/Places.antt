@@ -1,8 +1,7 @@
 -- A walk's place in the tree of its root: what the pieces of the tree there, and of the right branches that wait, make of those passed.
 use Rattle.std.proofs.Common.{◌≡◌, ℕ, zero, suc, true, false, List, [], ◌∷◌, ◌++◌, slice_get, Some, inl, inr, append-nil, append_assoc, refl, sym, subst, ap, ◌∙◌}
-use Rattle.me_terms.specs.Context.{Context}
 use Rattle.me_terms.specs.Outcome.{TreeOutcome}
-use Rattle.branch_core.specs.Paths.{Turns, IsLeftOf}
+use Rattle.branch_core.specs.Paths.{Turns}
 use Rattle.branch_core.specs.Pieces.{Piece, Sat, leaf_piece}
 use Rattle.branch_core.specs.Replaced.{Replaced, own_leaf, own_node, given, cut, no_memory}
 use Rattle.branch_core.specs.SearchTree.{SearchTree, Leaf, Node}

@@ -15,7 +15,7 @@ use Rattle.branch_core.specs.StandsFor.{Account, record_of, StandsFor}
 use Rattle.branch_core.specs.Whole.{IsIn, IsLicensed, AreWhole, AreWholeRecords}
 use Rattle.std.specs.List.{All}
 use Rattle.branch_walk.specs.Jobs.{turns_taken, MayBeGiven}
-use Rattle.branch_walk.specs.Portions.{gift_of, gifts, sat_keys, MayCut, IsPortion}
+use Rattle.branch_walk.specs.Portions.{gift_of, gifts, MayCut, IsPortion}
 use Rattle.branch_walk.specs.Walks.{Heard, IsWalked}
 use Rattle.branch_walk.specs.declared.state.State.{State}
 use Rattle.branch_walk.specs.declared.tally.Tally.{Tally}
@@ -52,11 +52,11 @@ module _ (problem : ProblemValue) (bounds : Bounds) (share : ℕ) (path : Turns)
       }
 
 -- ---- one record
-none_at : {A : Type 0} (x : A) (k : ℕ) → slice_get [] k ≡ Some x → ⊥
+pub none_at : {A : Type 0} (x : A) (k : ℕ) → slice_get [] k ≡ Some x → ⊥
 none_at x zero h = cc h
 none_at x (suc k) h = cc h
 
-one_at : {A : Type 0} (x a : A) (k : ℕ) → slice_get (a ∷ []) k ≡ Some x → (k ≡ 0) × (x ≡ a)
+pub one_at : {A : Type 0} (x a : A) (k : ℕ) → slice_get (a ∷ []) k ≡ Some x → (k ≡ 0) × (x ≡ a)
 one_at x a zero h = (refl, sym (same_Some a x h))
 one_at x a (suc k) h = absurd (none_at x k h)
 

@@ -1,5 +1,5 @@
 -- What the reasons of a grown context's entries tell a walk that goes back.
-use Rattle.std.proofs.Common.{◌≡◌, ◌≤◌, Bool, ◌∷◌, ◌++◌, length, [], refl, sym, subst, ap, ◌∙◌, arith}
+use Rattle.std.proofs.Common.{◌≡◌, ◌≤◌, Bool, ◌∷◌, ◌++◌, length, [], sym, subst, ap, ◌∙◌, arith}
 use Rattle.me_terms.specs.Measures.{complement}
 use Rattle.me_terms.specs.Values.{ProblemValue, EntryValue, ReasonValue, Pseudo, Asserted, SplitLeft, SplitRight}
 use Rattle.me_terms.specs.Context.{Context, IsLiteralEntry, add}

@@ -1,26 +1,23 @@
 -- The walk of a node whose left branch was walked: with what became of the right one.
-use Rattle.std.proofs.Common.{◌≡◌, ℕ, ◌+◌, ◌≤◌, Bool, true, false, List, [], ◌∷◌, ◌++◌, length, reverse, length-append, append-nil, append_assoc, refl, sym, subst, ap, ◌∙◌, arith}
+use Rattle.std.proofs.Common.{◌≡◌, ℕ, ◌≤◌, Bool, true, false, List, [], ◌∷◌, ◌++◌, length, reverse, length-append, append-nil, append_assoc, refl, sym, subst, ap, ◌∙◌, arith}
 use Rattle.std.specs.List.{All}
 use Rattle.std.specs.Prelude.{if◌then◌else◌}
 use Rattle.std.proofs.lemmas.List.Elements.{All-append, All-cons, All-head, All-nil, All-weaker}
 use Rattle.std.proofs.lemmas.List.{length-reverse, reverse-append}
 use Rattle.me_terms.specs.Values.{ProblemValue, SplitLeft}
 use Rattle.me_terms.specs.Context.{Context, add}
-use Rattle.me_terms.specs.Grown.{IsGrown, split_entry, left_of, right_of, went_left, went_right}
+use Rattle.me_terms.specs.Grown.{IsGrown, split_entry, right_of, went_left, went_right}
 use Rattle.me_terms.specs.declared.bounds.Bounds.{Bounds}
-use Rattle.me_terms.specs.declared.entry.Kind.{Kind}
-use Rattle.me_terms.specs.declared.atom.Literal.{Literal}
-use Rattle.branch_core.specs.Paths.{Turns, IsLeftOf, ProperlyExtends}
-use Rattle.branch_core.specs.Core.{EndsRight}
+use Rattle.branch_core.specs.Paths.{Turns, IsLeftOf}
 use Rattle.branch_core.specs.Hooks.{SameGifts}
 use Rattle.branch_core.specs.Pieces.{Piece, Gift, Cut, NoMemory}
 use Rattle.branch_core.specs.Replaced.{Replaced, own_node, given, cut, no_memory}
 use Rattle.branch_core.specs.SearchTree.{SearchTree, Node, IsSearchTree, splits}
 use Rattle.branch_walk.specs.Jobs.{turns_taken, MayBeGiven}
 use Rattle.branch_walk.specs.Portions.{gifts, sat_keys, MayCut}
-use Rattle.branch_walk.specs.Tallies.{IsTally, IsOpen, cuts, losses}
+use Rattle.branch_walk.specs.Tallies.{IsTally, IsOpen}
 use Rattle.branch_walk.specs.Turning.{EndsLeft, beside}
-use Rattle.branch_walk.specs.Walks.{Heard, Hears, GoesOn, IsReady, IsWalked, IsLeftOfSplit, HasWalkedLeft, gift_if}
+use Rattle.branch_walk.specs.Walks.{Heard, Hears, GoesOn, IsReady, IsWalked, HasWalkedLeft, gift_if}
 use Rattle.branch_walk.specs.declared.state.State.{State}
 use Rattle.branch_walk.specs.declared.state.State.TheVariants.{Going, Cutting, Lost}
 use Rattle.branch_walk.specs.declared.tally.Tally.{Tally}
@@ -29,7 +26,7 @@ use Rattle.branch_walk.proofs.Ends.{longer}
 use Rattle.branch_walk.proofs.Pushes.{open_takes}
 use Rattle.branch_walk.proofs.LeftRight.{below_left, children_apart}
 use Rattle.branch_walk.proofs.Places.{replaced_more, may_left, may_right}
-use Rattle.branch_walk.proofs.Subtrees.{hears_more, hears_none, hears_sent, gifts_append, sats_append, grown_some}
+use Rattle.branch_walk.proofs.Subtrees.{hears_more, hears_none, gifts_append, sats_append, grown_some}
 use Rattle.branch_walk.proofs.TreesBelow.{tree_of}
 use Rattle.branch_walk.proofs.TurnsTaken.{turns_left, turns_right}
 

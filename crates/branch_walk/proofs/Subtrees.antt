@@ -1,21 +1,19 @@
 -- The walk of a whole tree without gifts: where it stands, and how it ends.
-use Rattle.std.proofs.Common.{◌≡◌, ℕ, ◌<◌, ◌≤◌, Bool, true, false, List, [], ◌∷◌, ◌++◌, length, map, reverse, inl, inr, append-nil, append_assoc, refl, sym, subst, ap, ◌∙◌, arith}
-use Rattle.std.specs.List.{All, flat_map}
+use Rattle.std.proofs.Common.{◌≡◌, ℕ, ◌<◌, ◌≤◌, Bool, true, List, [], ◌∷◌, ◌++◌, length, map, reverse, inl, inr, append-nil, append_assoc, refl, sym, subst, ap, ◌∙◌, arith}
 use Rattle.std.proofs.lemmas.Grind.{flat_map-append}
 use Rattle.std.proofs.lemmas.List.Elements.{All-nil}
-use Rattle.me_terms.specs.Values.{ProblemValue, EntryValue, Asserted, SplitLeft, SplitRight}
+use Rattle.me_terms.specs.Values.{ProblemValue, EntryValue, Asserted, SplitLeft}
 use Rattle.me_terms.specs.Context.{Context, pseudo, add}
-use Rattle.me_terms.specs.Grown.{IsGrown, split_entry, left_of, asserted, went_left}
-use Rattle.me_terms.specs.Next.{IsNext, Assert, Split}
+use Rattle.me_terms.specs.Grown.{IsGrown, split_entry, asserted, went_left}
 use Rattle.me_terms.specs.Outcome.{TreeOutcome, Closed, Sat, Met}
 use Rattle.me_terms.specs.declared.bounds.Bounds.{Bounds}
 use Rattle.branch_core.specs.Paths.{Turns, key, IsLeftOf}
 use Rattle.branch_core.specs.Pieces.{Piece, leaf_piece}
 use Rattle.branch_core.specs.Pieces as piece
 use Rattle.branch_core.specs.Replaced.{Replaced, own_leaf, cut, no_memory}
-use Rattle.branch_core.specs.SearchTree.{SearchTree, Leaf, Node, IsSearchTree, is_exhausted}
+use Rattle.branch_core.specs.SearchTree.{SearchTree, Leaf, IsSearchTree, is_exhausted}
 use Rattle.branch_core.specs.Whole.{IsIn}
-use Rattle.branch_walk.specs.Jobs.{turn_of, turns_taken, MayBeGiven}
+use Rattle.branch_walk.specs.Jobs.{turns_taken, MayBeGiven}
 use Rattle.branch_walk.specs.Portions.{gift_of, sat_key_of, gifts, sat_keys, MayCut}
 use Rattle.branch_walk.specs.Tallies.{IsTally, IsOpen, cuts, losses}
 use Rattle.branch_walk.specs.Turning.{IsAllBack, IsBackAtLeft, beside}

@@ -9,7 +9,7 @@ use Rattle.me_terms.specs.declared.entry.Kind.{Kind}
 use Rattle.me_terms.specs.declared.atom.Literal.{Literal}
 use Rattle.me_existence.proofs.Outcomes as exists
 use Rattle.branch_core.proofs.Trees.{searches_are_trees}
-use Rattle.branch_core.specs.SearchTree.{SearchTree, Leaf, Node, IsSearchTree, asserts, splits}
+use Rattle.branch_core.specs.SearchTree.{SearchTree, Node, IsSearchTree, asserts, splits}
 
 module _ (problem : ProblemValue) (bounds : Bounds) where
   pub tree_of : (positive : Bool) (context : Context) → IsGrown problem bounds positive context → (search : SearchTree) × IsSearchTree problem bounds context search

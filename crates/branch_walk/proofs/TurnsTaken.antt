@@ -1,6 +1,6 @@
 -- The turns of a context with an entry more.
 use Rattle.std.proofs.Common.{◌≡◌, ℕ, true, false, List, [], ◌∷◌, ◌++◌, append-nil, append_assoc, refl, sym, ap, ◌∙◌}
-use Rattle.me_terms.specs.Values.{ProblemValue, EntryValue, ReasonValue, Asserted, SplitLeft, SplitRight}
+use Rattle.me_terms.specs.Values.{ProblemValue, EntryValue, ReasonValue, Asserted}
 use Rattle.me_terms.specs.Context.{Context, add}
 use Rattle.me_terms.specs.Next.{IsNext, Assert}
 use Rattle.me_terms.specs.Grown.{left_of, right_of}

@@ -1,5 +1,5 @@
 -- What a visit of a node adds to the tally.
-use Rattle.std.proofs.Common.{◌≡◌, ℕ, Bool, List, [], ◌∷◌, ◌++◌, append-nil, refl, sym, subst, ap, ◌∙◌}
+use Rattle.std.proofs.Common.{ℕ, Bool, List, [], ◌∷◌, ◌++◌, append-nil, refl, ap, ◌∙◌}
 use Rattle.me_terms.specs.Values.{ProblemValue, InstanceValue}
 use Rattle.me_terms.specs.Context.{Context}
 use Rattle.me_terms.specs.Grown.{IsGrown}

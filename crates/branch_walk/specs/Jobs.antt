@@ -1,6 +1,6 @@
 -- Jobs: a path, and the context at which its walk begins.
-use Rattle.std.specs.Prelude.{◌≡◌, ◌≤◌, ℕ, Bool, true, false, List, [], ◌∷◌, ◌++◌, length}
-use Rattle.me_terms.specs.Values.{ProblemValue, EntryValue, ReasonValue, Pseudo, Asserted, SplitLeft, SplitRight}
+use Rattle.std.specs.Prelude.{◌≡◌, ◌≤◌, ℕ, Bool, true, false, [], ◌∷◌, ◌++◌, length}
+use Rattle.me_terms.specs.Values.{ProblemValue, ReasonValue, Pseudo, Asserted, SplitLeft, SplitRight}
 use Rattle.me_terms.specs.Context.{Context}
 use Rattle.me_terms.specs.Grown.{IsGrown}
 use Rattle.me_terms.specs.declared.bounds.Bounds.{Bounds}

@@ -1,5 +1,5 @@
 -- What the walk of a portion hands back.
-use Rattle.std.specs.Prelude.{◌≡◌, ◌⊎◌, ◌<◌, ◌≤◌, ℕ, List, [], ◌∷◌, ◌++◌, length, reverse}
+use Rattle.std.specs.Prelude.{◌≡◌, ◌⊎◌, ◌<◌, ◌≤◌, ℕ, List, [], ◌∷◌, length, reverse}
 use Rattle.std.specs.List.{All, flat_map}
 use Rattle.me_terms.specs.Context.{Context}
 use Rattle.branch_core.specs.Paths.{Turns, key, IsLeftOf}
@@ -7,7 +7,7 @@ use Rattle.branch_core.specs.Parts.{PartValue, RecordValue}
 use Rattle.branch_core.specs.Parts as part
 use Rattle.branch_core.specs.Pieces.{Piece, Closed, Bounded, Sat, Gift, Cut, NoMemory}
 use Rattle.branch_core.specs.SearchTree.{SearchTree}
-use Rattle.branch_core.specs.StandsFor.{Account, record_of, StandsFor}
+use Rattle.branch_core.specs.StandsFor.{record_of, StandsFor}
 use Rattle.branch_core.specs.Whole.{IsIn}
 use Rattle.branch_walk.specs.Jobs.{MayBeGiven}
 

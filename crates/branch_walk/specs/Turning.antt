@@ -1,18 +1,11 @@
 -- How a walk goes back along a branch, and turns to the right.
-use Rattle.std.specs.Prelude.{◌≡◌, ◌≤◌, ℕ, ◌++◌, [], ◌∷◌, not, Option, Some, None, length}
-use Rattle.me_terms.specs.Values.{EntryValue, ReasonValue, Pseudo, Asserted, SplitLeft, SplitRight}
+use Rattle.std.specs.Prelude.{◌≡◌, ◌≤◌, ℕ, ◌++◌, [], ◌∷◌, not, length}
+use Rattle.me_terms.specs.Values.{EntryValue, SplitLeft, SplitRight}
 use Rattle.me_terms.specs.Context.{Context, add}
 
 -- The entry of the right branch beside the left branch of this entry: the same literal with the other sign.
 abbrev pub beside : EntryValue → EntryValue
 beside e = record { positive = not e.positive; atom = e.atom; kind = e.kind; reason = SplitRight }
-
--- The entry of the right branch where the reason is that of a left branch.
-abbrev pub beside_left : ReasonValue → EntryValue → Option EntryValue
-beside_left SplitLeft e = Some (beside e)
-beside_left SplitRight e = None
-beside_left Pseudo e = None
-beside_left (Asserted c place tuple) e = None
 
 -- No entry of the list begins a left branch.
 abbrev pub AreNotLeft : Context → Type 0

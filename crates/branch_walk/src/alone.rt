@@ -1,7 +1,9 @@
 //! The walk of the whole tree, on one thread.
 ghost use Rattle.std.specs.Prelude.{◌∷◌, [], false, IfOk};
+ghost use Rattle.std.specs.List.{All};
 ghost use Rattle.me_terms.specs.Validity.{IsLawful, IsValid};
 ghost use Rattle.branch_core.specs.Whole.{AreWholeRecords};
+ghost use Rattle.branch_walk.specs.Portions.{IsOwnPart};
 
 use crate::alone_hook::Alone;
 use crate::job::Job;
@@ -16,6 +18,7 @@ pub fn walk_alone(alloc: Global, problem: &Problem, bounds: &Bounds) -> Result<R
     requires valid { IsValid problem.now }
     requires bounds { IsLawful bounds.now }
     ensures whole { IfOk result (λ record'. AreWholeRecords problem.now bounds.now false (record' ∷ [])) }
+    ensures own { IfOk result (λ record'. All IsOwnPart record'.parts) }
 {
     let path = Path::root();
     let branch = Context::new(alloc)?;

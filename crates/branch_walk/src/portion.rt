@@ -46,6 +46,7 @@ pub fn walk_portion<T: Trunk, H: Hook<Job<T>>>(
     ensures path { result.path ≡ job.path }
     ensures few { length result.parts ≤ 40 }
     ensures portion { (told posted : List ℕ) × (given : List Turns) × (H.seen hook.new ≡ H.seen hook.old ++ told) × (H.given hook.new ≡ H.given hook.old ++ given) × (H.posted hook.new ≡ H.posted hook.old ++ posted) × ((positive : Bool) (search : SearchTree) → IsGrown problem.now bounds.now positive (T.context job.branch) → IsSearchTree problem.now bounds.now (start positive) search → IsPortion bounds.now.list share search job.path told given posted result) }
+    ensures quiet { share ≡ 0 → H.seen hook.new ≡ H.seen hook.old → length result.parts ≤ 1 }
     ensures condition { SameGifts (H.may_give hook.old) (H.may_give hook.new) }
 {
     let search = Search {

@@ -73,6 +73,7 @@ impl<'a> Search<'a> {
         ensures ready { IsReady result tally.new }
         ensures stands { result ≡ Going → (later : Context) × (T.context branch.new ≡ T.context branch.old ++ later) }
         ensures pushes { AddsAtMost (2 * (share - length path) + 1) tally.old tally.new }
+        ensures quiet { share ≤ length path → H.seen hook.new ≡ H.seen hook.old → AddsAtMost 0 tally.old tally.new }
         ensures condition { SameGifts (H.may_give hook.old) (H.may_give hook.new) }
     {
         if u32::from(turn_count(path)) >= share {

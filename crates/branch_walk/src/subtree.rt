@@ -37,6 +37,7 @@ impl<'a> Search<'a> {
         ensures ready { IsReady result tally.new }
         ensures stands { result ≡ Going → T.context branch.new ≡ T.context branch.old }
         ensures pushes { AddsAtMost 1 tally.old tally.new }
+        ensures quiet { H.seen hook.new ≡ H.seen hook.old → AddsAtMost 0 tally.old tally.new }
         ensures condition { SameGifts (H.may_give hook.old) (H.may_give hook.new) }
     {
         let base = branch.len();

@@ -5,7 +5,7 @@ ghost use Rattle.me_terms.specs.Values.{EntryValue, SplitLeft};
 ghost use Rattle.me_terms.specs.Context.{Context, IsLiteralEntry, add};
 ghost use Rattle.me_terms.specs.Contradictory.{Contradicts};
 ghost use Rattle.me_terms.specs.Grown.{IsGrown, split_entry};
-ghost use Rattle.branch_walk.specs.Turning.{EndsLeft, IsAllBack, IsBackAtLeft, beside, beside_left};
+ghost use Rattle.branch_walk.specs.Turning.{EndsLeft, IsAllBack, IsBackAtLeft, beside};
 
 use me_terms::{Again, Bounds, Entry, Kind, Literal, Pattern, Problem, Reason, Trunk, View};
 use std::alloc::{AllocError, Global};

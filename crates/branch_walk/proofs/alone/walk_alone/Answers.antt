@@ -1,9 +1,10 @@
-use Rattle.std.proofs.Common.{◌≡◌, false, [], refl, sym, subst, ap, ◌∙◌}
+use Rattle.std.proofs.Common.{false, refl, sym, subst, ap, ◌∙◌}
 use Rattle.me_terms.specs.Context.{Context}
 use Rattle.me_terms.specs.Grown.{IsGrown, start, started}
 use Rattle.branch_core.specs.Paths.{Turns}
 use Rattle.branch_walk.specs.Jobs.{turns_taken}
 use Rattle.branch_walk.specs.Portions.{IsPortion}
+use Rattle.branch_walk.proofs.OwnParts.{own_alone}
 use Rattle.branch_walk.proofs.PortionEnds.{whole_alone}
 use Rattle.branch_walk.proofs.Spines.{none_given}
 use Rattle.branch_walk.proofs.TreesBelow.{tree_of}
@@ -28,4 +29,8 @@ returns c =
     let t = tree_of problem bounds false (start false) started in
     let G : Context → Type 0 = λ x. IsGrown problem bounds false x in
     let I : Turns → Type 0 = λ path. IsPortion bounds.list 0 t.0 path p.0 p.2 p.1 c.walk_portion.result in
-    record { whole = whole_alone problem bounds c.walk_portion.result p.0 p.2 p.1 (sym p.3) (sym p.4) t.0 t.1 (subst I c.root-path.ensures (p.6 false t.0 (subst G (sym c.in_ok-branch.ensures) started) t.1)) }
+    let portion = subst I c.root-path.ensures (p.6 false t.0 (subst G (sym c.in_ok-branch.ensures) started) t.1) in
+    record {
+      whole = whole_alone problem bounds c.walk_portion.result p.0 p.2 p.1 (sym p.3) (sym p.4) t.0 t.1 portion;
+      own = own_alone p.0 p.2 p.1 (sym p.3) (sym p.4) (c.walk_portion.ensures.quiet refl refl) portion;
+    }

@@ -1,5 +1,4 @@
-use Rattle.std.proofs.Common.{◌≡◌, ℕ, ◌∷◌, [], map, refl, sym, ap, ◌∙◌}
-use Rattle.branch_core.specs.Parts.{PartValue, RecordValue}
+use Rattle.std.proofs.Common.{[]}
 use Rattle.branch_walk.specs.Walks.{Heard}
 use Rattle.branch_walk.proofs.PortionEnds.{portion}
 use Rattle.branch_walk.proofs.portion.walk_portion.Goals as goal

@@ -1,13 +1,12 @@
-use Rattle.std.proofs.Common.{◌≡◌, ℕ, ◌+◌, ◌≤◌, ◌<◌, true, false, [], ◌∷◌, ◌++◌, length, length-append, append-nil, append_assoc, refl, sym, subst, ap, ◌∙◌, arith}
+use Rattle.std.proofs.Common.{◌≡◌, ◌≤◌, true, false, [], ◌∷◌, ◌++◌, length, length-append, append-nil, append_assoc, sym, subst, ap, ◌∙◌, arith}
 use Rattle.me_terms.specs.Context.{Context}
 use Rattle.me_terms.specs.Grown.{IsGrown, went_left}
 use Rattle.branch_core.specs.Paths.{Turns}
 use Rattle.branch_walk.specs.Jobs.{IsJob, turns_taken}
-use Rattle.branch_walk.specs.Tallies.{IsTally, IsOpen, AddsAtMost}
+use Rattle.branch_walk.specs.Tallies.{IsTally, IsOpen}
 use Rattle.branch_walk.specs.Walks.{Heard, HasWalkedLeft}
 use Rattle.branch_walk.specs.declared.tally.Tally.{Tally}
 use Rattle.branch_walk.proofs.Descents.{lifted}
-use Rattle.branch_walk.proofs.Pushes.{adds_then, adds_within}
 use Rattle.branch_walk.proofs.Spines.{given_deeper, given_if, right_given}
 use Rattle.branch_walk.proofs.TurnsTaken.{turns_left}
 use Rattle.branch_walk.proofs.turning.Search.+spine.Goals as goal
@@ -328,3 +327,8 @@ returns-clause-pushes g t c =
       few = omega (arith, number, long, one_more, c.from.ensures, c.if-from-share.false, count, f, f');
       room = omega (arith, number, long, one_more, c.from.ensures, c.if-from-share.false, spare, r, r');
     }
+
+pub returns-clause-quiet : goal.returns-clause-quiet
+returns-clause-quiet g t c = λ le unheard.
+    let number = c.turn_count.ensures in
+    absurd (omega (arith, le, number, c.from.ensures, c.if-from-share.false))

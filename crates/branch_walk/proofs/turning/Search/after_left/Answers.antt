@@ -1,4 +1,4 @@
-use Rattle.std.proofs.Common.{Bool, true, false, ◌++◌, [], ◌∷◌, refl, sym, subst, ap, ◌∙◌, append_assoc}
+use Rattle.std.proofs.Common.{Bool, ◌++◌, [], ◌∷◌, sym, subst, ap, ◌∙◌, append_assoc}
 use Rattle.me_terms.specs.Values.{SplitLeft, SplitRight}
 use Rattle.me_terms.specs.Context.{Context}
 use Rattle.me_terms.specs.Grown.{IsGrown, split_entry}

@@ -1,4 +1,4 @@
-use Rattle.std.proofs.Common.{[], refl, subst, ap, inl, sym, ◌∙◌}
+use Rattle.std.proofs.Common.{[], refl, subst, ap, inl, ◌∙◌}
 use Rattle.me_terms.specs.Values.{EntryValue}
 use Rattle.me_terms.specs.Context.{add}
 use Rattle.me_terms.specs.Next.{IsNext}

@@ -1,5 +1,5 @@
-use Rattle.std.proofs.Common.{length, refl, sym, subst, ap, ◌∙◌}
-use Rattle.me_terms.specs.Context.{Context, add}
+use Rattle.std.proofs.Common.{refl, sym, subst, ap, ◌∙◌}
+use Rattle.me_terms.specs.Context.{Context}
 use Rattle.me_terms.specs.Values.{SplitLeft}
 use Rattle.me_terms.specs.Grown.{IsGrown, split_entry, went_left, went_right}
 use Rattle.branch_walk.specs.Jobs.{turns_taken}

@@ -1,12 +1,13 @@
-use Rattle.std.proofs.Common.{ℕ, ◌≤◌, Bool, List, ◌∷◌, ◌++◌, length, sym, subst, ◌∙◌, arith}
+use Rattle.std.proofs.Common.{ℕ, ◌≤◌, Bool, List, ◌∷◌, ◌++◌, length, sym, subst, arith}
 use Rattle.me_terms.specs.Context.{Context}
 use Rattle.branch_core.specs.Pieces.{Piece}
 use Rattle.branch_walk.specs.Tallies.{IsTally, cuts, losses}
-use Rattle.branch_walk.specs.Turning.{IsAllBack, IsBackAtLeft, beside}
+use Rattle.branch_walk.specs.Turning.{IsAllBack, IsBackAtLeft}
 use Rattle.branch_walk.specs.Walks.{Heard}
 use Rattle.branch_core.specs.Paths.{Turns}
 use Rattle.branch_walk.specs.declared.state.Visit.TheVariants as visit
 use Rattle.branch_walk.specs.declared.tally.Tally.{Tally}
+use Rattle.branch_walk.proofs.OwnParts.{told_longer}
 use Rattle.branch_walk.proofs.Pushes.{adds_none, adds_then}
 use Rattle.me_terms.specs.Grown.{IsGrown}
 use Rattle.branch_walk.proofs.Reasons.{left_grown}
@@ -305,3 +306,18 @@ returns-in-Lost-clause-walked g c =
     let at = visited_at problem bounds from to c.walk.tally c.visit.new.tally v.0 v.1 c.visit.result visit.Lost c.in-Lost.is v.3 in
     let T : Tally → Type 0 = λ t. (leaves : List Piece) (node : Turns) (nodes : List Turns) → IsTally bounds.list t leaves → IsTally bounds.list c.lose-in-Lost.new.self (leaves ++ losses (node ∷ nodes)) in
     ends_lost problem bounds root first c.args.tally.now from h now c.walk.tally c.lose-in-Lost.new.self v.0 v.1 w v.2 at.1 (subst T at.0 (λ leaves node nodes t. c.lose-in-Lost.ensures.tally bounds.list leaves node nodes t))
+
+pub returns-in-Cut-clause-quiet : goal.returns-in-Cut-clause-quiet
+returns-in-Cut-clause-quiet g c = λ unheard.
+    let problem = c.args.self.now.problem.now in
+    let bounds = c.args.self.now.bounds.now in
+    let root = g.T.View.context c.args.branch.now in
+    let from = g.T.View.context c.walk.branch in
+    let to = g.T.View.context c.visit.new.branch in
+    let first : Heard = record { given = g.H.Hook.given c.args.hook.now; seen = g.H.Hook.seen c.args.hook.now; posted = g.H.Hook.posted c.args.hook.now } in
+    let h : Heard = record { given = g.H.Hook.given c.walk.hook; seen = g.H.Hook.seen c.walk.hook; posted = g.H.Hook.posted c.walk.hook } in
+    let now : Heard = record { given = g.H.Hook.given c.visit.new.hook; seen = g.H.Hook.seen c.visit.new.hook; posted = g.H.Hook.posted c.visit.new.hook } in
+    let w = c.walk.invariant.walking in
+    let v = c.visit.ensures.visited in
+    let at = visited_at problem bounds from to c.walk.tally c.visit.new.tally v.0 v.1 c.visit.result (visit.Cut c.in-Cut.key) c.in-Cut.is v.3 in
+    absurd (told_longer c.in-Cut.key first.seen h.seen now.seen w.told v.0 w.hears.seen v.2.seen at.0 unheard)

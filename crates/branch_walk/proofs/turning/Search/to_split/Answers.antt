@@ -1,4 +1,4 @@
-use Rattle.std.proofs.Common.{ℕ, List, [], ◌∷◌, ◌++◌, length, append-nil, refl, sym, subst, ◌∙◌}
+use Rattle.std.proofs.Common.{List, [], ◌∷◌, ◌++◌, length, append-nil, refl, sym, subst, ◌∙◌}
 use Rattle.branch_core.specs.Paths.{Turns}
 use Rattle.branch_core.specs.Pieces.{Piece}
 use Rattle.branch_walk.specs.Tallies.{IsTally, IsOpen, cuts, losses}

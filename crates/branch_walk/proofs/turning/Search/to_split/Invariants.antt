@@ -1,6 +1,5 @@
 use Rattle.std.proofs.Common.{◌-◌, length}
 use Rattle.branch_core.specs.Hooks.{SameGifts}
-use Rattle.branch_walk.specs.Tallies.{AddsAtMost}
 use Rattle.branch_walk.proofs.Descents.{IsDescending}
 use Rattle.branch_walk.proofs.turning.Search.to_split.Given as goal
 

@@ -1,7 +1,7 @@
-use Rattle.std.proofs.Common.{ℕ, ◌+◌, ◌≤◌, length, ap, arith}
+use Rattle.std.proofs.Common.{length, ap, arith}
 use Rattle.branch_walk.proofs.Back.{taken_off}
 use Rattle.branch_walk.proofs.Ends.{longer}
-use Rattle.branch_walk.proofs.Reasons.{can_turn, CanGrow}
+use Rattle.branch_walk.proofs.Reasons.{can_turn}
 use Rattle.branch_walk.proofs.turning.Search.turn_right.Goals as goal
 
 pub grow-requires-clause-literal : goal.grow-requires-clause-literal
