@@ -1,15 +1,15 @@
 -- Symbols with numbers of their own are those that occur, in the order of first occurrence, exactly where their numbers are numbered by first occurrence.
-use Rattle.std.proofs.Common.{◌≡◌, ℕ, zero, suc, ◌+◌, ◌<◌, ◌≤◌, Bool, true, false, ◌||◌, ◌&&◌, cond, eqb, ltb, List, [], ◌∷◌, ◌++◌, length, take, slice_get, get_or, Option, Some, None, refl, sym, ap, ◌∙◌, append_assoc, arith}
+use Rattle.std.proofs.Common.{◌≡◌, ℕ, zero, suc, ◌+◌, ◌<◌, ◌≤◌, Bool, true, false, ◌||◌, cond, eqb, ltb, List, [], ◌∷◌, ◌++◌, length, take, slice_get, get_or, Option, Some, None, refl, sym, ap, ◌∙◌, append_assoc, arith}
 use Rattle.std.specs.Prelude.{option_to_list}
 use Rattle.std.specs.List.{AllByRecursion, list_any}
 use Rattle.std.proofs.lemmas.Bool.{eqb-true}
 use Rattle.std.proofs.lemmas.Bool.Decides.{nat_tests}
-use Rattle.std.proofs.lemmas.List.{length-append, length-take-le, append-nil}
+use Rattle.std.proofs.lemmas.List.{length-append, length-take-le}
 use Rattle.std.proofs.lemmas.List.{take_more}
 use Rattle.std.proofs.lemmas.Option.{slice_get_within, slice_get-get_or, get_or_from_slice_get}
 use Rattle.me_terms.specs.LabelEquality.{same_symbol}
 use Rattle.me_terms.specs.LabelEqualityLaws.{same_symbol_sound, same_symbol_itself}
-use Rattle.me_terms.specs.Signatures.{with_symbol, number_of}
+use Rattle.me_terms.specs.Signatures.{with_symbol}
 use Rattle.me_terms.specs.Values.{SymbolValue}
 use Rattle.me_terms.specs.Variables.{first_ones}
 use Rattle.problem_validity.specs.ValidityTests.{numbered_on}
@@ -23,11 +23,11 @@ use Rattle.tptp_cnf.proofs.Numbering.{Longer, longer_same, longer_on, symbol_lon
 pub clash : {A : Type 0} (b : Bool) → b ≡ true → b ≡ false → A
 clash b h k = let z : true ≡ false = sym h ∙ k in absurd cc
 
-or_left : (a b : Bool) → a ≡ true → (a || b) ≡ true
+pub or_left : (a b : Bool) → a ≡ true → (a || b) ≡ true
 or_left true b h = refl
 or_left false b h = absurd cc
 
-or_right : (a b : Bool) → b ≡ true → (a || b) ≡ true
+pub or_right : (a b : Bool) → b ≡ true → (a || b) ≡ true
 or_right true b h = refl
 or_right false b h = h
 

@@ -1,6 +1,6 @@
 -- What the tests of plainness say.
-use Rattle.std.proofs.Common.{◌≡◌, ℕ, zero, suc, ◌+◌, ◌<◌, ◌≤◌, Bool, true, false, ◌||◌, ◌&&◌, cond, eqb, ltb, List, [], ◌∷◌, ◌++◌, length, take, slice_get, get_or, min, Option, Some, None, is_some, refl, sym, ap, ◌∙◌, arith}
-use Rattle.std.specs.Prelude.{◌↔◌, IsTrue, nat_le, not, option_to_list, codes}
+use Rattle.std.proofs.Common.{◌≡◌, ℕ, zero, suc, ◌+◌, ◌<◌, ◌≤◌, Bool, true, false, ◌||◌, ◌&&◌, cond, eqb, List, [], ◌∷◌, ◌++◌, length, take, slice_get, Option, Some, None, is_some, refl, sym, ap, ◌∙◌, arith}
+use Rattle.std.specs.Prelude.{◌↔◌, IsTrue, nat_le, not, codes}
 use Rattle.std.specs.List.{AllByRecursion, list_all, list_any, position_or_len, flat_map}
 use Rattle.std.specs.Str.{bytes_eq}
 use Rattle.std.proofs.lemmas.Bool.{eqb-true}
@@ -9,14 +9,13 @@ use Rattle.std.proofs.lemmas.List.{length-append, append-nil, take_all}
 use Rattle.std.proofs.lemmas.List.Elements.{recursion_from_All}
 use Rattle.std.proofs.lemmas.Option.{slice_get_within}
 use Rattle.std.proofs.lemmas.Slice.Eq.{bytes_eq-Decides}
-use Rattle.me_terms.specs.LabelEquality.{same_symbol}
-use Rattle.me_terms.specs.Measures.{literal_depth, capped, GREATEST_U64}
+use Rattle.me_terms.specs.Measures.{literal_depth}
 use Rattle.me_terms.specs.Signatures.{takes, is_known, are_known, is_known_atom}
 use Rattle.me_terms.specs.TermEqualityLaws.{both_parts}
 use Rattle.me_terms.specs.Terms.{TermValue, Var, App, Arguments, Nil, Cons}
 use Rattle.me_terms.specs.Validity.{clause_variables, IsValidClause, IsValid}
-use Rattle.me_terms.specs.Values.{SymbolValue, LabelValue, SignatureValue, ClauseValue, ProblemValue}
-use Rattle.me_terms.specs.Variables.{is_numbered_from, first_ones, count}
+use Rattle.me_terms.specs.Values.{SymbolValue, SignatureValue, ClauseValue, ProblemValue}
+use Rattle.me_terms.specs.Variables.{first_ones, count}
 use Rattle.me_terms.specs.declared.atom.Literal.{Literal}
 use Rattle.me_terms.specs.declared.symbol.Form.{Form}
 use Rattle.me_terms.specs.declared.symbol.Form.TheVariants.{Word, Distinct, Number}
@@ -25,23 +24,14 @@ use Rattle.problem_validity.proofs.ValidityTests.{numbered_test}
 use Rattle.tptp_cnf.specs.Meaning.{is_constant, c0_symbol, with_constant, with_symbols}
 use Rattle.tptp_cnf.specs.Plain.{term_function_numbers, function_numbers, symbols_at, clauses_functions, clauses_predicates, HasNumbersFrom, IsWithinLimits, IsPlain}
 use Rattle.tptp_cnf.proofs.Constants.{constant_known}
-use Rattle.problem_plainness.specs.PlainTests as tests
-use Rattle.problem_plainness.specs.PlainTests.{HaveOwnNumbers, are_numbered, at_most, is_within, is_shallow, has_few_arguments, is_c0, is_first_constant, are_plain_functions, are_plain_predicates, passes, literals_predicates}
-use Rattle.problem_plainness.proofs.FirstOccurrence.{clash, Within, taken_more, met, Met, numbered_if, different_ones}
+use Rattle.problem_plainness.specs.PlainTests.{HaveOwnNumbers, are_numbered, at_most, is_within, is_shallow, has_few_arguments, have_few_arguments, is_c0, is_first_constant, are_plain_functions, are_plain_predicates, passes, literals_predicates}
+use Rattle.problem_plainness.proofs.FirstOccurrence.{or_left, or_right, Within, taken_more, met, Met, numbered_if, different_ones}
 
 -- ---- truth values
 
 both : (a b : Bool) → a ≡ true → b ≡ true → (a && b) ≡ true
 both true b h k = k
 both false b h k = absurd cc
-
-or_right : (a b : Bool) → b ≡ true → (a || b) ≡ true
-or_right true b h = refl
-or_right false b h = h
-
-or_left : (a b : Bool) → a ≡ true → (a || b) ≡ true
-or_left true b h = refl
-or_left false b h = absurd cc
 
 eqb_of : (a b : ℕ) → a ≡ b → eqb a b ≡ true
 eqb_of a b h = grind (arith, nat_tests)
@@ -51,15 +41,6 @@ le_of a b h = grind (arith, nat_tests)
 
 of_le : (a b : ℕ) → a ≤ b → nat_le a b ≡ true
 of_le a b h = grind (arith, nat_tests)
-
-pub shallow_is : (n : ℕ) → nat_le (capped n) 249 ≡ nat_le n 249
-shallow_is n = by (nat_le (capped n) 249) (nat_le n 249) refl refl
-  where
-    by : (a b : Bool) → nat_le (capped n) 249 ≡ a → nat_le n 249 ≡ b → a ≡ b
-    by true true e f = refl
-    by false false e f = refl
-    by true false e f = clash (nat_le n 249) (of_le n 249 (omega (arith, le_of (capped n) 249 e))) f
-    by false true e f = clash (nat_le (capped n) 249) (of_le (capped n) 249 (omega (arith, le_of n 249 f))) e
 
 module _ {X : Type 0} (p : X → Bool) (P : X → Type 0) where
   all_from : ((x : X) → p x ≡ true → P x) → (xs : List X) → list_all p xs ≡ true → AllByRecursion P xs
@@ -282,9 +263,15 @@ all_pass : (signature : SignatureValue) (cs : List ClauseValue) → AllByRecursi
 all_pass signature [] v w = refl
 all_pass signature (c ∷ cs) v w = both (is_within c) (list_all is_within cs) (test_of_within signature c v.0 w.0) (all_pass signature cs v.1 w.1)
 
+pub plain_has_few : (p : ProblemValue) → IsPlain p → have_few_arguments p.signature ≡ true
+plain_has_few p x =
+    both (list_all has_few_arguments p.signature.functions) (list_all has_few_arguments p.signature.predicates)
+    (all_to has_few_arguments (λ s. s.arity ≤ 64) (λ s k. of_le s.arity 64 k) p.signature.functions x.arguments)
+    (all_to has_few_arguments (λ s. s.arity ≤ 64) (λ s k. of_le s.arity 64 k) p.signature.predicates x.predicate_arguments)
+
 -- ---- all tests
 
-module _ (p : ProblemValue) (functions : HaveOwnNumbers p.signature.functions) (predicates : HaveOwnNumbers p.signature.predicates) (valid : IsValid p) where
+module _ (p : ProblemValue) (functions : HaveOwnNumbers p.signature.functions) (predicates : HaveOwnNumbers p.signature.predicates) (valid : IsValid p) (few : have_few_arguments p.signature ≡ true) where
   clauses : AllByRecursion (IsValidClause p.signature) p.clauses
   clauses = recursion_from_All (IsValidClause p.signature) p.clauses valid.clauses
 
@@ -306,20 +293,13 @@ module _ (p : ProblemValue) (functions : HaveOwnNumbers p.signature.functions) (
   abbrev f : Bool
   f = list_all is_within p.clauses
 
-  abbrev g : Bool
-  g = list_all has_few_arguments p.signature.functions
-
-  abbrev h : Bool
-  h = list_all has_few_arguments p.signature.predicates
-
   any : list_any is_constant p.signature.functions ≡ true
   any = any_constant p.signature.functions p.c0 valid.c0_constant
 
   plain_of_tests : passes p ≡ true → IsPlain p
   plain_of_tests t =
-      let t7 = both_parts (a && b && c && d && e && f && g) h t in
-      let t6 = both_parts (a && b && c && d && e && f) g t7.0 in
-      let t5 = both_parts (a && b && c && d && e) f t6.0 in
+      let arguments = both_parts (list_all has_few_arguments p.signature.functions) (list_all has_few_arguments p.signature.predicates) few in
+      let t5 = both_parts (a && b && c && d && e) f t in
       let t4 = both_parts (a && b && c && d) e t5.0 in
       let t3 = both_parts (a && b && c) d t4.0 in
       let t2 = both_parts (a && b) c t3.0 in
@@ -334,8 +314,8 @@ module _ (p : ProblemValue) (functions : HaveOwnNumbers p.signature.functions) (
         constant = place;
         few_clauses = le_of (length p.clauses) 1048576 t4.1;
         within = all_from is_within IsWithinLimits within_of_test p.clauses t5.1;
-        arguments = all_from has_few_arguments (λ s. s.arity ≤ 64) (λ s k. le_of s.arity 64 k) p.signature.functions t6.1;
-        predicate_arguments = all_from has_few_arguments (λ s. s.arity ≤ 64) (λ s k. le_of s.arity 64 k) p.signature.predicates t7.1;
+        arguments = all_from has_few_arguments (λ s. s.arity ≤ 64) (λ s k. le_of s.arity 64 k) p.signature.functions arguments.0;
+        predicate_arguments = all_from has_few_arguments (λ s. s.arity ≤ 64) (λ s k. le_of s.arity 64 k) p.signature.predicates arguments.1;
       }
 
   tests_of_plain : IsPlain p → passes p ≡ true
@@ -348,11 +328,8 @@ module _ (p : ProblemValue) (functions : HaveOwnNumbers p.signature.functions) (
       let t3 : (a && b && c && d) ≡ true =
       both (a && b && c) d t2 (both (list_any is_constant p.signature.functions) (eqb p.c0 (position_or_len is_constant p.signature.functions)) any (eqb_of p.c0 (position_or_len is_constant p.signature.functions) x.constant)) in
       let t4 : (a && b && c && d && e) ≡ true = both (a && b && c && d) e t3 (of_le (length p.clauses) 1048576 x.few_clauses) in
-      let t5 : (a && b && c && d && e && f) ≡ true = both (a && b && c && d && e) f t4 (all_pass p.signature p.clauses clauses x.within) in
-      let t6 : (a && b && c && d && e && f && g) ≡ true =
-      both (a && b && c && d && e && f) g t5 (all_to has_few_arguments (λ s. s.arity ≤ 64) (λ s k. of_le s.arity 64 k) p.signature.functions x.arguments) in
-      both (a && b && c && d && e && f && g) h t6 (all_to has_few_arguments (λ s. s.arity ≤ 64) (λ s k. of_le s.arity 64 k) p.signature.predicates x.predicate_arguments)
+      both (a && b && c && d && e) f t4 (all_pass p.signature p.clauses clauses x.within)
 
-  -- A valid problem passes the tests exactly where it is plain.
+  -- A valid problem whose symbols have few arguments passes the tests exactly where it is plain.
   pub plain_is : IsTrue (passes p) ↔ IsPlain p
   plain_is = ((λ t. plain_of_tests t), (λ x. tests_of_plain x))

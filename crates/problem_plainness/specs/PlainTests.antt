@@ -6,7 +6,7 @@ use Rattle.me_terms.specs.Measures.{literal_depth}
 use Rattle.me_terms.specs.Signatures.{number_of}
 use Rattle.me_terms.specs.Terms.{TermValue, Arguments}
 use Rattle.me_terms.specs.Validity.{clause_variables}
-use Rattle.me_terms.specs.Values.{SymbolValue, ClauseValue, ProblemValue}
+use Rattle.me_terms.specs.Values.{SymbolValue, SignatureValue, ClauseValue, ProblemValue}
 use Rattle.me_terms.specs.Variables.{term_variables, variables_of}
 use Rattle.me_terms.specs.declared.atom.Literal.{Literal}
 use Rattle.problem_validity.specs.ValidityTests.{has, is_word, numbered_on}
@@ -30,9 +30,13 @@ literals_numbers counted literals = flat_map (λ l. numbers_of counted l.atom.ar
 abbrev pub literals_predicates : List Literal → List ℕ
 literals_predicates literals = flat_map (λ l. l.atom.pred ∷ []) literals
 
+-- The symbol of this number, where there is one, stands nowhere before.
+abbrev pub HasOwnNumber : List SymbolValue → ℕ → Type 0
+HasOwnNumber symbols n = (s : SymbolValue) → slice_get symbols n ≡ Some s → number_of s symbols ≡ n
+
 -- Each symbol stands once, so its number leads back to it.
 abbrev pub HaveOwnNumbers : List SymbolValue → Type 0
-HaveOwnNumbers symbols = (n : ℕ) (s : SymbolValue) → slice_get symbols n ≡ Some s → number_of s symbols ≡ n
+HaveOwnNumbers symbols = (n : ℕ) → HasOwnNumber symbols n
 
 abbrev pub is_numbered : ℕ → ClauseValue → Bool
 is_numbered n c = eqb c.number n
@@ -56,6 +60,9 @@ is_within c = nat_le (length c.literals) 4096 && at_most 1024 (numbered_on 0 (cl
 abbrev pub has_few_arguments : SymbolValue → Bool
 has_few_arguments s = nat_le s.arity 64
 
+abbrev pub have_few_arguments : SignatureValue → Bool
+have_few_arguments signature = list_all has_few_arguments signature.functions && list_all has_few_arguments signature.predicates
+
 abbrev pub is_c0 : SymbolValue → Bool
 is_c0 s = eqb s.arity 0 && is_word s.label.form && bytes_eq s.label.text (codes "c0")
 
@@ -71,12 +78,10 @@ abbrev pub are_plain_predicates : List SymbolValue → Option ℕ → Bool
 are_plain_predicates predicates None = false
 are_plain_predicates predicates (Some n) = eqb n (length predicates)
 
--- the tests that a valid problem passes if it is plain
+-- the tests that a valid problem whose symbols have few arguments passes if it is plain
 abbrev pub passes : ProblemValue → Bool
 passes p =
     are_numbered 1 p.clauses && are_plain_functions p.signature.functions p.c0 (numbered_on 0 (clauses_functions p.clauses)) && are_plain_predicates p.signature.predicates (numbered_on 0 (clauses_predicates p.clauses))
     && is_first_constant p.signature.functions p.c0
     && nat_le (length p.clauses) 1048576
     && list_all is_within p.clauses
-    && list_all has_few_arguments p.signature.functions
-    && list_all has_few_arguments p.signature.predicates

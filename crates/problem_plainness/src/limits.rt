@@ -2,11 +2,11 @@
 //!
 //! A formula has at most 4,096 literals and 1,024 variables. With its own bracket and one round each list
 //! of arguments at most 250 are open at once. A symbol has at most 64 arguments.
-ghost use Rattle.std.specs.Prelude.{◌≡◌, slice_get};
+ghost use Rattle.std.specs.Prelude.{◌≡◌, IsTrue, slice_get};
 ghost use Rattle.std.specs.List.{list_all};
 ghost use Rattle.me_terms.specs.Validity.{clause_variables};
 ghost use Rattle.problem_validity.specs.ValidityTests.{has, numbered_on};
-ghost use Rattle.problem_plainness.specs.PlainTests.{at_most, is_shallow as shallow, is_within as within, has_few_arguments};
+ghost use Rattle.problem_plainness.specs.PlainTests.{at_most, is_shallow as shallow, is_within as within, has_few_arguments, have_few_arguments, HasOwnNumber, HaveOwnNumbers};
 
 use crate::numbering::variable_count;
 use me_terms::{Clause, Literal, Signature, Symbol, depth_of};
@@ -75,7 +75,8 @@ fn has_few(symbol: &Symbol) -> bool
 }
 
 fn function_has_few(signature: &Signature, f: u32) -> bool
-    ensures { result ≡ has has_few_arguments (slice_get signature.now.functions f) }
+    ensures few { result ≡ has has_few_arguments (slice_get signature.now.functions f) }
+    ensures own { HasOwnNumber signature.now.functions f }
 {
     match signature.fun(f) {
         Some(symbol) => has_few(symbol),
@@ -84,7 +85,8 @@ fn function_has_few(signature: &Signature, f: u32) -> bool
 }
 
 fn predicate_has_few(signature: &Signature, p: u32) -> bool
-    ensures { result ≡ has has_few_arguments (slice_get signature.now.predicates p) }
+    ensures few { result ≡ has has_few_arguments (slice_get signature.now.predicates p) }
+    ensures own { HasOwnNumber signature.now.predicates p }
 {
     match signature.pred(p) {
         Some(symbol) => has_few(symbol),
@@ -92,9 +94,10 @@ fn predicate_has_few(signature: &Signature, p: u32) -> bool
     }
 }
 
-/// Whether each function has few enough arguments.
-pub(crate) fn functions_have_few(signature: &Signature) -> bool
-    ensures { result ≡ list_all has_few_arguments signature.now.functions }
+/// Whether each function has few enough arguments. Then each was looked at, and stands once.
+fn functions_have_few(signature: &Signature) -> bool
+    ensures few { result ≡ list_all has_few_arguments signature.now.functions }
+    ensures own { IsTrue result → HaveOwnNumbers signature.now.functions }
 {
     'functions: for f in 0..signature.fun_count() {
         if !function_has_few(signature, f) {
@@ -104,9 +107,10 @@ pub(crate) fn functions_have_few(signature: &Signature) -> bool
     true
 }
 
-/// Whether each predicate has few enough arguments.
-pub(crate) fn predicates_have_few(signature: &Signature) -> bool
-    ensures { result ≡ list_all has_few_arguments signature.now.predicates }
+/// Whether each predicate has few enough arguments. Then each was looked at, and stands once.
+fn predicates_have_few(signature: &Signature) -> bool
+    ensures few { result ≡ list_all has_few_arguments signature.now.predicates }
+    ensures own { IsTrue result → HaveOwnNumbers signature.now.predicates }
 {
     'predicates: for p in 0..signature.pred_count() {
         if !predicate_has_few(signature, p) {
@@ -114,4 +118,16 @@ pub(crate) fn predicates_have_few(signature: &Signature) -> bool
         }
     }
     true
+}
+
+/// Whether each symbol has few enough arguments. Then each was looked at, and stands once.
+pub(crate) fn symbols_have_few(signature: &Signature) -> bool
+    ensures few { result ≡ have_few_arguments signature.now }
+    ensures functions { IsTrue result → HaveOwnNumbers signature.now.functions }
+    ensures predicates { IsTrue result → HaveOwnNumbers signature.now.predicates }
+{
+    if !functions_have_few(signature) {
+        return false;
+    }
+    predicates_have_few(signature)
 }

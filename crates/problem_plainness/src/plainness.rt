@@ -8,31 +8,13 @@ ghost use Rattle.tptp_cnf.specs.Plain.{IsPlain, clauses_functions, clauses_predi
 ghost use Rattle.tptp_cnf.specs.Rows.{constant_at};
 ghost use Rattle.problem_plainness.specs.PlainTests as tests;
 
-use crate::limits::{are_within, functions_have_few, predicates_have_few};
+use crate::limits::{are_within, symbols_have_few};
 use crate::numbering::{function_count, predicate_count};
 use me_terms::{Clause, Form, Problem, Signature, Symbol};
 use problem_validity::is_valid;
 
 /// The greatest number of formulas in a file.
 const MAX_CLAUSES: u64 = 1_048_576;
-
-/// Looks at each function. Each stands once.
-fn functions_differ(signature: &Signature)
-    ensures { tests.HaveOwnNumbers signature.now.functions }
-{
-    'functions: for f in 0..signature.fun_count() {
-        let _function = signature.fun(f);
-    }
-}
-
-/// Looks at each predicate. Each stands once.
-fn predicates_differ(signature: &Signature)
-    ensures { tests.HaveOwnNumbers signature.now.predicates }
-{
-    'predicates: for p in 0..signature.pred_count() {
-        let _predicate = signature.pred(p);
-    }
-}
 
 fn is_numbered(clause: &Clause, number: u64) -> bool
     ensures { result ≡ tests.is_numbered number clause.now }
@@ -118,7 +100,7 @@ fn has_plain_predicates(problem: &Problem) -> bool
     }
 }
 
-/// Whether the problem passes the tests of plainness but that of validity.
+/// Whether the problem passes the tests of plainness but those of validity and of the symbols' arguments.
 fn passes_tests(problem: &Problem) -> bool
     ensures { result ≡ tests.passes problem.now }
 {
@@ -129,8 +111,6 @@ fn passes_tests(problem: &Problem) -> bool
         && is_first_constant(&problem.signature, problem.c0)
         && problem.clauses.len() <= MAX_CLAUSES
         && are_within(clauses)
-        && functions_have_few(&problem.signature)
-        && predicates_have_few(&problem.signature)
 }
 
 /// Whether the problem is valid, its clauses have the numbers 1, 2, .., its symbols are those that occur,
@@ -139,9 +119,10 @@ fn passes_tests(problem: &Problem) -> bool
 pub fn is_plain(problem: &Problem) -> bool
     ensures { IsTrue result ↔ IsPlain problem.now }
 {
-    functions_differ(&problem.signature);
-    predicates_differ(&problem.signature);
     if !is_valid(problem) {
+        return false;
+    }
+    if !symbols_have_few(&problem.signature) {
         return false;
     }
     passes_tests(problem)

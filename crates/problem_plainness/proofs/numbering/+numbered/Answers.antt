@@ -1,6 +1,5 @@
-use Rattle.std.proofs.Common.{◌+◌, ◌*◌, ◌<◌, sym, ◌∙◌, arith}
+use Rattle.std.proofs.Common.{sym, ◌∙◌, arith}
 use Rattle.me_terms.specs.TermViews.{term_value}
-use Rattle.me_terms.specs.Terms.{height}
 use Rattle.me_terms.proofs.Numbered.{height_in}
 use Rattle.problem_plainness.proofs.Walks.{left_some, left_none, left_all}
 use Rattle.problem_plainness.proofs.numbering.+numbered.Goals as goal

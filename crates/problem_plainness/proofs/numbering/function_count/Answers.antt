@@ -1,4 +1,4 @@
-use Rattle.std.proofs.Common.{[], ◌∷◌, sym, ◌∙◌}
+use Rattle.std.proofs.Common.{sym, ◌∙◌}
 use Rattle.problem_plainness.specs.PlainTests.{literals_numbers}
 use Rattle.problem_plainness.specs.declared.numbering.Counted.TheVariants.{Functions}
 use Rattle.problem_plainness.proofs.Walks.{each_some, each_none, each_all}

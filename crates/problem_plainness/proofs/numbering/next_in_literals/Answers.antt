@@ -1,4 +1,4 @@
-use Rattle.std.proofs.Common.{[], ◌∷◌, sym, ◌∙◌}
+use Rattle.std.proofs.Common.{sym, ◌∙◌}
 use Rattle.problem_plainness.specs.PlainTests.{numbers_of}
 use Rattle.problem_plainness.proofs.Walks.{each_some, each_none, each_all}
 use Rattle.problem_plainness.proofs.numbering.next_in_literals.Goals as goal

@@ -1,4 +1,4 @@
-use Rattle.std.proofs.Common.{[], ◌∷◌, sym, ◌∙◌}
+use Rattle.std.proofs.Common.{sym, ◌∙◌}
 use Rattle.problem_plainness.specs.PlainTests.{literals_predicates}
 use Rattle.problem_plainness.proofs.Walks.{each_some, each_none, each_all}
 use Rattle.problem_plainness.proofs.numbering.predicate_count.Goals as goal
