@@ -1,0 +1,5 @@
+pub mod Walks
+pub mod FirstConstant
+pub mod FirstOccurrence
+pub mod OwnNumbers
+pub mod Passes
