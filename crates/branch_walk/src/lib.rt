@@ -21,6 +21,7 @@ mod visiting;
 
 pub use alone::walk_alone;
 pub use job::Job;
+pub use me_terms::Next;
 pub use next_rule::next_step;
 pub use portion::walk_portion;
 

@@ -1,14 +1,12 @@
 //! The walk of a portion, from left to right.
 //!
 //! Near its path it gives right children away; what comes back and all that lies deeper it walks itself.
-ghost use Rattle.std.specs.Prelude.{◌≡◌, ◌≤◌, ◌++◌, ◌∷◌, [], ℕ, Bool, List, false, length, IfOk};
-ghost use Rattle.std.specs.List.{All};
+ghost use Rattle.std.specs.Prelude.{◌≡◌, ◌≤◌, ◌++◌, ◌∷◌, [], ℕ, Bool, List, length};
 ghost use Rattle.me_terms.specs.Validity.{IsLawful, IsValid};
 ghost use Rattle.me_terms.specs.Grown.{IsGrown, start};
 ghost use Rattle.branch_core.specs.Hooks.{SameGifts};
 ghost use Rattle.branch_core.specs.Paths.{Turns};
 ghost use Rattle.branch_core.specs.SearchTree.{SearchTree, IsSearchTree};
-ghost use Rattle.branch_core.specs.Whole.{AreWholeRecords};
 ghost use Rattle.branch_walk.specs.Jobs.{IsJob, MayBeGiven};
 ghost use Rattle.branch_walk.specs.Portions.{IsPortion};
 ghost use Rattle.branch_walk.specs.declared.job.Job.{Job as JobOf};
@@ -18,7 +16,7 @@ use crate::tally::Tally;
 use crate::turning::Search;
 use branch_core::{Hook, Parts, Record};
 use me_terms::{Bounds, Problem, Trunk};
-use std::alloc::{AllocError, Global};
+use std::alloc::Global;
 
 /// Walks a job's subtree from left to right, and hands back what it found there.
 ///
@@ -46,7 +44,8 @@ pub fn walk_portion<T: Trunk, H: Hook<Job<T>>>(
     ensures path { result.path ≡ job.path }
     ensures few { length result.parts ≤ 40 }
     ensures portion { (told posted : List ℕ) × (given : List Turns) × (H.seen hook.new ≡ H.seen hook.old ++ told) × (H.given hook.new ≡ H.given hook.old ++ given) × (H.posted hook.new ≡ H.posted hook.old ++ posted) × ((positive : Bool) (search : SearchTree) → IsGrown problem.now bounds.now positive (T.context job.branch) → IsSearchTree problem.now bounds.now (start positive) search → IsPortion bounds.now.list share search job.path told given posted result) }
-    ensures quiet { share ≡ 0 → H.seen hook.new ≡ H.seen hook.old → length result.parts ≤ 1 }
+    // Where nothing may be given and no key was told, all that was found is one part.
+    ensures one_part { share ≡ 0 → H.seen hook.new ≡ H.seen hook.old → length result.parts ≤ 1 }
     ensures condition { SameGifts (H.may_give hook.old) (H.may_give hook.new) }
 {
     let search = Search {

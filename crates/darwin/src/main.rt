@@ -3,21 +3,37 @@
 
 use darwin_cli::run;
 use me_io::{StdSink, StdSource};
+use std::io::ErrorKind;
 use std::process::ExitCode;
 use std::{env, io};
+use szs_print::{Refusal, write_refusal};
 
-fn start(rt: &HostRuntime) -> io::Result<u8> {
-    let alloc = rt.alloc();
-    let mut words = Vec::new(alloc);
+/// The program's name and the words after it.
+fn words_of(rt: &HostRuntime) -> io::Result<Vec<String>> {
+    let mut words = Vec::new(rt.alloc());
     for word in env::args(rt)? {
         words.push(word)?;
     }
+    Ok(words)
+}
+
+fn status(rt: &HostRuntime) -> u8 {
+    let alloc = rt.alloc();
     let mut source = StdSource::new(rt.stdin());
     let mut sink = StdSink::new(rt.stdout());
-    Ok(run(alloc, &words, &mut source, &mut sink))
+    match words_of(rt) {
+        Ok(words) => run(alloc, &words, &mut source, &mut sink),
+        Err(error) => match error.kind() {
+            // A word that is no text is not accepted, and neither is a list without words.
+            ErrorKind::InvalidData => run(alloc, &Vec::new(alloc), &mut source, &mut sink),
+            _ => match write_refusal(&mut sink, b"stdin", &Refusal::Memory) {
+                Ok(()) => 7,
+                Err(_) => 6,
+            },
+        },
+    }
 }
 
 fn main(rt: HostRuntime) -> ExitCode {
-    // Where the words can't be had there is no memory for them.
-    ExitCode::from(start(&rt).unwrap_or(7))
+    ExitCode::from(status(&rt))
 }

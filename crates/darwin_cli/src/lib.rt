@@ -7,6 +7,7 @@
 mod answer;
 mod top;
 
+pub use darwin_options::{Options, WordsError, read_words};
 pub use top::{run, run_alone};
 
 #[cfg(test)]

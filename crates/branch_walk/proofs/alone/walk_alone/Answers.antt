@@ -32,5 +32,5 @@ returns c =
     let portion = subst I c.root-path.ensures (p.6 false t.0 (subst G (sym c.in_ok-branch.ensures) started) t.1) in
     record {
       whole = whole_alone problem bounds c.walk_portion.result p.0 p.2 p.1 (sym p.3) (sym p.4) t.0 t.1 portion;
-      own = own_alone p.0 p.2 p.1 (sym p.3) (sym p.4) (c.walk_portion.ensures.quiet refl refl) portion;
+      own = own_alone p.0 p.2 p.1 (sym p.3) (sym p.4) (c.walk_portion.ensures.one_part refl refl) portion;
     }
