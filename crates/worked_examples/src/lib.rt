@@ -1,0 +1,5 @@
+//! Examples that cross crates, as tests.
+#![tactic(auto)]
+
+#[cfg(test)]
+mod tests;
