@@ -296,6 +296,7 @@ words_count zero g = refl
 words_count (suc n) g = omega (arith, words_count n (pcg32 g).1)
 
 pub words_length : (seed count : ℕ) → length (words_of seed count) ≡ count
+unfolding words_of
 words_length seed count = words_count count (pcg32_of_seed (pcg32_seed 16 seed))
 
 fine_arity : (s : SymbolValue) → IsFine s → s.arity ≤ 64
@@ -354,7 +355,7 @@ made_by seed preds count problem h =
 
 pub made_is_plain : (seed preds count : ℕ) (problem : ProblemValue) → 1 ≤ preds → preds ≤ 1000 → count ≤ 100000 → IsMade seed preds count problem → IsPlain problem
 made_is_plain seed preds count problem some few bounded h =
-    subst IsPlain (sym (made_by seed preds count problem h)) (plain_by preds count (words_of seed (3 * count)) some few bounded (words_count (3 * count) (pcg32_of_seed (pcg32_seed 16 seed))))
+    subst IsPlain (sym (made_by seed preds count problem h)) (plain_by preds count (words_of seed (3 * count)) some few bounded (words_length seed (3 * count)))
 
 -- the clauses by the signature before c0 is added are those of the problem
 pub made_by_words : (seed preds count : ℕ) (drawn : SignatureValue) (problem : ProblemValue) → drawn ≡ with_words preds (record { functions = []; predicates = [] }) (words_of seed (3 * count)) → problem.clauses ≡ clauses_of preds drawn 1 count (words_of seed (3 * count)) → problem.signature ≡ (record { functions = with_constant drawn.functions; predicates = drawn.predicates }) → problem.c0 ≡ 0 → IsMade seed preds count problem

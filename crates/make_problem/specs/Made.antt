@@ -11,7 +11,7 @@ use Rattle.rand_pcg.specs.Pcg.{pcg32, pcg32_of_seed}
 use Rattle.tptp_cnf.specs.Meaning.{word, symbol, with_symbols, is_constant, with_constant}
 
 -- The first words of the generator `Pcg32` that `seed_from_u64` makes of the seed.
-abbrev pub words_of : ℕ → ℕ → List ℕ
+unfoldable pub words_of : ℕ → ℕ → List ℕ
 words_of seed count = first_words pcg32 count (pcg32_of_seed (pcg32_seed 16 seed))
 
 -- ---- what a word says

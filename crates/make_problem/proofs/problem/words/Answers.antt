@@ -1,9 +1,13 @@
-use Rattle.std.proofs.Common.{◌≡◌, ℕ, suc, ◌+◌, ◌-◌, List, ◌++◌, ap, ◌∙◌, arith}
+use Rattle.std.proofs.Common.{rules, ◌≡◌, ℕ, suc, ◌+◌, ◌-◌, List, ◌++◌, ap, ◌∙◌, arith}
 use Rattle.rand_core.specs.Steps.{first_words}
 use Rattle.rand_pcg.specs.Pcg.{pcg32}
 use Rattle.make_problem.specs.Made.{words_of}
 use Rattle.make_problem.proofs.Words.{one_word, no_more_words}
 use Rattle.make_problem.proofs.problem.words.Goals as goal
+
+pub words-init : goal.words-init
+unfolding words_of
+words-init c = search rules
 
 pub words-preserved : goal.words-preserved
 words-preserved c =
