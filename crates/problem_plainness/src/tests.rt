@@ -54,6 +54,7 @@ fn a_function_that_does_not_occur_is_too_much(rt: HostRuntime) -> Result<(), Fai
     let mut problem = read_problem(alloc, b"cnf(a,axiom,p(c)).")
         .ok()
         .ok_or("refused")?;
+    assert_eq!(rt; problem.signature.fun_count(), 1);
     problem.signature.add_fun(letter(alloc, b'd', 0)?)?;
     assert!(rt; !is_plain(&problem));
     Ok(())
