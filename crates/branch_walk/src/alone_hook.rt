@@ -1,4 +1,6 @@
 //! What stands around a walk of the whole tree: no other worker.
+//!
+//! Whatever is to be given away comes back.
 ghost use Rattle.std.specs.Prelude.{[]};
 
 use crate::notes::Notes;
@@ -26,7 +28,7 @@ impl<J> Hook<J> for Alone {
 
     ghost posted = { λ a. a.notes.posted };
 
-    ghost may_give = { λ _ _ _. ⊥ };
+    ghost may_give = { λ _ _ _. Unit {0} };
 
     fn give(&mut self, _path: Path, work: J) -> Give<J> {
         Give::NoRoom { work }

@@ -6,7 +6,6 @@ use Rattle.branch_walk.specs.Jobs.{turns_taken}
 use Rattle.branch_walk.specs.Portions.{IsPortion}
 use Rattle.branch_walk.proofs.OwnParts.{own_alone}
 use Rattle.branch_walk.proofs.PortionEnds.{whole_alone}
-use Rattle.branch_walk.proofs.Spines.{none_given}
 use Rattle.branch_walk.proofs.TreesBelow.{tree_of}
 use Rattle.branch_walk.proofs.alone.walk_alone.Goals as goal
 
@@ -17,9 +16,6 @@ walk_portion-requires-clause-job c =
       grown = (false, subst G (sym c.in_ok-branch.ensures) started);
       turns = ap turns_taken c.in_ok-branch.ensures ∙ sym c.root-path.ensures;
     }
-
-pub walk_portion-requires-clause-hook : goal.walk_portion-requires-clause-hook
-walk_portion-requires-clause-hook c = λ gift work may job is. none_given c.root-path.result gift may
 
 pub returns : goal.returns
 returns c =

@@ -1,4 +1,4 @@
-use Rattle.branch_walk.proofs.Steps.{◌≡◌, [], ◌∷◌, ℕ, List, refl, proved, emp, Val, vstruct, of_list, fact, fact_i, tables, ‵, raw, ◌⊛◌, ◌$◌, ◌∵◌, !, qed, done, keep, move, use0, split, join, suffices, enter, no_more, returns, alloc_all, pass_all, free_all, look_at, sets, agg, owns, types_at, nothing, alive, Stays, walk_of, ends_at, says, group, frame, fjoin}
+use Rattle.branch_walk.proofs.Steps.{◌≡◌, [], ◌∷◌, ℕ, List, refl, proved, emp, Val, vstruct, of_list, fact, fact_i, tables, ‵, raw, ◌⊛◌, ◌$◌, ◌∵◌, !, qed, done, keep, move, use0, split, join, suffices, enter, no_more, returns, alloc_all, pass_all, free_all, look_at, sets, agg, owns, types_at, nothing, alive, Stays, walk_of, ends_at}
 use seplogic.Ra.Ura.{Ura}
 use base.Logic.{ent}
 use types.Logic.{Logic, sem}
