@@ -1,9 +1,15 @@
 pub mod Ahead
 pub mod Around
+pub mod Asked
+pub mod FrozenClauses
+pub mod FrozenSolutions
+pub mod OpenSamples
 pub mod Prefixes
 pub mod Produced
 pub mod Remains
 pub mod Samples
 pub mod Steps
 pub mod StepsLeft
+pub mod Undisputed
+pub mod Unfreezing
 pub mod Unifiers

@@ -4,8 +4,12 @@
 //! no tuple is tried whose first positions do not unify.
 #![tactic(auto)]
 
+mod clause_bindings;
 mod cursor;
+mod exceptions;
+mod freezing;
 mod frontier;
+mod frozen;
 mod next;
 mod productive;
 mod targets;

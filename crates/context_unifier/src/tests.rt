@@ -224,7 +224,7 @@ fn the_next_one_is_after_the_given_one(rt: HostRuntime) -> Result<(), Fail> {
 fn first_is_productive(alloc: Global, context: &Context, term: Term) -> Result<bool, Fail> {
     let clause = clause(alloc, with(alloc, Literals::new(alloc), 0, term)?);
     match next_unifier(alloc, &clause, context, None)? {
-        Some(unifier) => Ok(is_productive(&clause, context, &unifier)?),
+        Some(unifier) => Ok(is_productive(alloc, &clause, context, &unifier)?),
         None => Err("a unifier".into()),
     }
 }

@@ -72,7 +72,7 @@ impl<'a, V: View> Search<'a, V> {
         if !state.is_improved_by(size, choice.weight) {
             return Ok(state);
         }
-        if !is_productive(clause, self.view, unifier)? {
+        if !is_productive(self.alloc, clause, self.view, unifier)? {
             return Ok(state);
         }
         let literal = unifier.literal(choice.place)?;
@@ -109,7 +109,7 @@ impl<'a, V: View> Search<'a, V> {
         if state.is_settled() {
             return Ok(state);
         }
-        if !is_productive(clause, self.view, unifier)? {
+        if !is_productive(self.alloc, clause, self.view, unifier)? {
             return Ok(state);
         }
         let met = first_bound(unifier, self.bounds);
