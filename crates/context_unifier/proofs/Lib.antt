@@ -1,5 +1,7 @@
 pub mod Ahead
 pub mod Around
+pub mod Beyond
+pub mod Followed
 pub mod Prefixes
 pub mod Produced
 pub mod Remains
