@@ -1,6 +1,8 @@
 pub mod Ahead
 pub mod Around
 pub mod Asked
+pub mod Beyond
+pub mod Followed
 pub mod FrozenClauses
 pub mod FrozenSolutions
 pub mod OpenSamples

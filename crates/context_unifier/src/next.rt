@@ -1,10 +1,11 @@
 //! The next context unifier of a clause.
 ghost use Rattle.std.specs.Prelude.{◌≡◌, ◌<◌, ◌-◌, ◌^◌, List, ℕ, length, IfOk, IfSome, IsNone, None};
 ghost use Rattle.std.specs.Option.{option_map};
-ghost use Rattle.context_unifier.specs.Enumeration.{IsNextUnifier, IsLastTuple};
+ghost use Rattle.context_unifier.specs.Enumeration.{no_limits, IsNextUnifier, IsLastTuple};
 ghost use Rattle.context_unifier.specs.Cursors.{CursorValue};
 
 use crate::cursor::Cursor;
+use crate::limits::Limits;
 use joint_unifiers::{Unifier, joint_unifier};
 use me_terms::{Clause, Literals, Tuple, View};
 use std::alloc::{AllocError, Global};
@@ -18,11 +19,11 @@ fn start<'a, V: View>(
 ) -> Result<Cursor<'a, V>, AllocError>
     requires few { length literals.now.items < 2 ^ 32 - 1 }
     requires after { IfSome after (λ tuple. length tuple.now.items ≡ length literals.now.items) }
-    ensures { IfOk result (λ c. c ≡ record { context = V.context view.now; literals = literals.now.items; skip = None; most = None; at = option_map (λ tuple. tuple.now.items) after.entry }) }
+    ensures { IfOk result (λ c. c ≡ record { context = V.context view.now; literals = literals.now.items; skip = None; limits = no_limits; at = option_map (λ tuple. tuple.now.items) after.entry }) }
 {
     match after {
-        Some(tuple) => Cursor::after(alloc, literals, None, None, view, tuple),
-        None => Ok(Cursor::new(alloc, literals, None, None, view)),
+        Some(tuple) => Cursor::after(alloc, literals, None, Limits::none(), view, tuple),
+        None => Ok(Cursor::new(alloc, literals, None, Limits::none(), view)),
     }
 }
 
@@ -39,7 +40,7 @@ pub fn next_unifier<V: View>(
     requires few { length clause.now.literals < 2 ^ 32 - 1 }
     requires after { IfSome after (λ tuple. length tuple.now.items ≡ length clause.now.literals) }
     ensures some { IfOk result (λ r. IfSome r (λ u. IsNextUnifier (V.context view.now) clause.now.literals (option_map (λ tuple. tuple.now.items) after.entry) u)) }
-    ensures none { IfOk result (λ r. IsNone r → IsLastTuple (V.context view.now) clause.now.literals None None (option_map (λ tuple. tuple.now.items) after.entry)) }
+    ensures none { IfOk result (λ r. IsNone r → IsLastTuple (V.context view.now) clause.now.literals None no_limits (option_map (λ tuple. tuple.now.items) after.entry)) }
 {
     let mut cursor = start(alloc, &clause.literals, view, after)?;
     if !cursor.advance()? {

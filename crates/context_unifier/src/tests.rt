@@ -1,9 +1,11 @@
 //! Enumerations for clauses of p and q in the context `~v, ~p(a)`, and one in which p is denied of many constants.
-ghost use Rattle.std.specs.Prelude.{◌≡◌, ◌+◌, length, IfOk};
+ghost use Rattle.std.specs.Prelude.{◌≡◌, ◌<◌, ◌+◌, ◌-◌, ◌^◌, length, IfOk, IsTrue};
 ghost use Rattle.me_terms.specs.TermViews.{term_value};
 ghost use Rattle.me_terms.specs.Terms as tree;
+ghost use Rattle.me_terms.specs.Variables.{is_canonical};
+ghost use Rattle.joint_unifiers.specs.ClauseUnifiers.{IsSkip};
 
-use crate::{Cursor, is_productive, next_unifier};
+use crate::{Cursor, Limits, is_productive, next_unifier};
 use joint_unifiers::is_contradictory;
 use me_context::Context;
 use me_terms::{
@@ -33,12 +35,41 @@ fn unary(alloc: Global, pred: u32, term: Term) -> Result<Atom, AllocError>
     Ok(Atom { pred, args })
 }
 
-/// Puts ~p of the constant at the end of the context.
-#[tactic(auto, using(crate::proofs::Samples::constant_literal))]
-fn deny(alloc: Global, context: &mut Context, f: u32) -> Result<(), Fail> {
+/// p of a constant.
+#[tactic(auto, using(crate::proofs::Samples::constant_is_canonical))]
+fn of_constant(alloc: Global, f: u32) -> Result<Atom, AllocError>
+    ensures { IfOk result (λ a. IsTrue (is_canonical a)) }
+{
+    unary(alloc, 0, constant(alloc, f))
+}
+
+/// f1 of the constant f0.
+fn deep(alloc: Global) -> Result<Term, AllocError>
+    ensures { IfOk result (λ t. term_value t ≡ tree.App 1 (tree.Cons (tree.App 0 tree.Nil) tree.Nil)) }
+{
+    let mut args = Terms::new(alloc);
+    let Ok(()) = args.push(constant(alloc, 0)) else {
+        return Err(AllocError);
+    };
+    Ok(Term::App { f: 1, args })
+}
+
+/// p of a term that weighs more than a constant.
+#[tactic(auto, using(crate::proofs::Samples::deep_is_canonical))]
+fn of_deep(alloc: Global) -> Result<Atom, AllocError>
+    ensures { IfOk result (λ a. IsTrue (is_canonical a)) }
+{
+    unary(alloc, 0, deep(alloc)?)
+}
+
+/// Puts the complement of the atom, which is ground, at the end of the context.
+#[tactic(auto, using(crate::proofs::Samples::universal_literal))]
+fn deny(alloc: Global, context: &mut Context, atom: Atom) -> Result<(), Fail>
+    requires { IsTrue (is_canonical atom) }
+{
     let literal = Literal {
         positive: false,
-        atom: unary(alloc, 0, constant(alloc, f))?,
+        atom,
     };
     if context.len() >= 65535 || is_contradictory(alloc, context, &literal, Kind::Universal)? {
         return Err("room".into());
@@ -59,7 +90,7 @@ fn deny(alloc: Global, context: &mut Context, f: u32) -> Result<(), Fail> {
 fn denied(alloc: Global, count: u32) -> Result<Context, Fail> {
     let mut context = Context::new(alloc)?;
     for f in 0..count {
-        deny(alloc, &mut context, f)?;
+        deny(alloc, &mut context, of_constant(alloc, f)?)?;
     }
     Ok(context)
 }
@@ -110,37 +141,70 @@ fn clause(alloc: Global, literals: Literals) -> Clause
     }
 }
 
-/// Whether the next tuple has these positions.
-fn goes_to(cursor: &mut Cursor<'_, Context>, positions: &[u32]) -> Result<bool, AllocError> {
-    if !cursor.advance()? {
-        return Ok(false);
+/// The positions of the next tuples, one after the other, of up to nine.
+fn positions(alloc: Global, cursor: &mut Cursor<'_, Context>) -> Result<Vec<u32>, AllocError> {
+    let mut all = Vec::new(alloc);
+    for _ in 0..9 {
+        if !cursor.advance()? {
+            return Ok(all);
+        }
+        for position in cursor.tuple().as_slice() {
+            all.push(*position)?;
+        }
     }
-    Ok(cursor.tuple().as_slice() == positions)
+    Ok(all)
+}
+
+/// Whether the cursor goes over tuples of these positions, one after the other.
+fn goes_over(
+    alloc: Global,
+    cursor: &mut Cursor<'_, Context>,
+    expected: &[u32],
+) -> Result<bool, AllocError> {
+    let all = positions(alloc, cursor)?;
+    Ok(all.as_slice() == expected)
+}
+
+/// Whether the tuples of the literals in the context `~v, ~p(a)` have these positions.
+fn are(
+    alloc: Global,
+    literals: &Literals,
+    skip: Option<u32>,
+    limits: Limits,
+    expected: &[u32],
+) -> Result<bool, Fail>
+    requires skip { IsSkip skip literals.now.items }
+    requires few { length literals.now.items < 2 ^ 32 - 1 }
+{
+    let context = denied(alloc, 1)?;
+    let mut cursor = Cursor::new(alloc, literals, skip, limits, &context);
+    Ok(goes_over(alloc, &mut cursor, expected)?)
 }
 
 /// `p(X) | q(X)`
 #[test]
 fn the_tuples_come_in_order(rt: HostRuntime) -> Result<(), Fail> {
     let alloc = rt.alloc();
-    let context = denied(alloc, 1)?;
     let literals = two(alloc, 1)?;
-    let mut cursor = Cursor::new(alloc, &literals, None, None, &context);
-    assert!(rt; goes_to(&mut cursor, &[0, 0])? && goes_to(&mut cursor, &[1, 0])?);
-    assert!(rt; !cursor.advance()? && !cursor.advance()?);
+    assert!(rt; are(alloc, &literals, None, Limits::none(), &[0, 0, 1, 0])?);
     Ok(())
 }
 
-/// `p(X) | p(X)`, and where no remainder is wanted.
+/// `p(X) | p(X)`
 #[test]
 fn literals_may_repeat(rt: HostRuntime) -> Result<(), Fail> {
     let alloc = rt.alloc();
-    let context = denied(alloc, 1)?;
     let literals = two(alloc, 0)?;
-    let mut cursor = Cursor::new(alloc, &literals, None, None, &context);
-    assert!(rt; goes_to(&mut cursor, &[0, 0])? && goes_to(&mut cursor, &[0, 1])?);
-    assert!(rt; goes_to(&mut cursor, &[1, 0])? && goes_to(&mut cursor, &[1, 1])?);
-    let mut cursor = Cursor::new(alloc, &literals, None, Some(0), &context);
-    assert!(rt; goes_to(&mut cursor, &[1, 1])? && !cursor.advance()?);
+    assert!(rt; are(alloc, &literals, None, Limits::none(), &[0, 0, 0, 1, 1, 0, 1, 1])?);
+    Ok(())
+}
+
+/// `p(X) | p(X)`, where no remainder is wanted.
+#[test]
+fn a_remainder_may_be_ruled_out(rt: HostRuntime) -> Result<(), Fail> {
+    let alloc = rt.alloc();
+    let literals = two(alloc, 0)?;
+    assert!(rt; are(alloc, &literals, None, Limits::of_remainder(Some(0)), &[1, 1])?);
     Ok(())
 }
 
@@ -150,10 +214,27 @@ fn a_remainder_may_be_ruled_out_later(rt: HostRuntime) -> Result<(), Fail> {
     let alloc = rt.alloc();
     let context = denied(alloc, 1)?;
     let literals = two(alloc, 0)?;
-    let mut cursor = Cursor::new(alloc, &literals, None, None, &context);
-    assert!(rt; goes_to(&mut cursor, &[0, 0])?);
-    cursor.limit(Some(0))?;
-    assert!(rt; goes_to(&mut cursor, &[1, 1])? && !cursor.advance()?);
+    let mut cursor = Cursor::new(alloc, &literals, None, Limits::none(), &context);
+    let moved = cursor.advance()?;
+    cursor.limit(Limits::of_remainder(Some(0)))?;
+    assert!(rt; moved && goes_over(alloc, &mut cursor, &[1, 1])?);
+    Ok(())
+}
+
+/// `p(X) | p(X) | q(X)` without its last place, in the context `~v, ~p(a), ~p(f(a))`: q(f(a)) is too heavy,
+/// and a prefix whose q(X) is that is left.
+#[test]
+fn a_prefix_may_be_too_heavy(rt: HostRuntime) -> Result<(), Fail> {
+    let alloc = rt.alloc();
+    let mut context = denied(alloc, 1)?;
+    deny(alloc, &mut context, of_deep(alloc)?)?;
+    let literals = with(alloc, two(alloc, 0)?, 1, Term::Var(0))?;
+    let limits = Limits {
+        remaining: Some(0),
+        weight: Some(2),
+    };
+    let mut cursor = Cursor::new(alloc, &literals, Some(2), limits, &context);
+    assert!(rt; goes_over(alloc, &mut cursor, &[1, 1])?);
     Ok(())
 }
 
@@ -163,7 +244,7 @@ fn prefixes_without_unifier_are_left(rt: HostRuntime) -> Result<(), Fail> {
     let alloc = rt.alloc();
     let context = denied(alloc, 199)?;
     let literals = six(alloc)?;
-    let mut cursor = Cursor::new(alloc, &literals, None, Some(0), &context);
+    let mut cursor = Cursor::new(alloc, &literals, None, Limits::of_remainder(Some(0)), &context);
     assert!(rt; !cursor.advance()?);
     Ok(())
 }
@@ -172,23 +253,28 @@ fn prefixes_without_unifier_are_left(rt: HostRuntime) -> Result<(), Fail> {
 #[test]
 fn no_literals_have_one_tuple(rt: HostRuntime) -> Result<(), Fail> {
     let alloc = rt.alloc();
-    let context = denied(alloc, 1)?;
+    let context = denied(alloc, 0)?;
     let literals = Literals::new(alloc);
-    let mut cursor = Cursor::new(alloc, &literals, None, Some(0), &context);
-    assert!(rt; goes_to(&mut cursor, &[])? && !cursor.advance()?);
+    let mut cursor = Cursor::new(alloc, &literals, None, Limits::none(), &context);
+    assert!(rt; cursor.advance()? && !cursor.advance()?);
     Ok(())
 }
 
-/// `p(X) | q(X)` without its first place, where no remainder is wanted, and without its second.
+/// `p(X) | q(X)` without its first place, where no remainder is wanted.
 #[test]
-fn a_place_may_be_skipped(rt: HostRuntime) -> Result<(), Fail> {
+fn the_first_place_may_be_skipped(rt: HostRuntime) -> Result<(), Fail> {
     let alloc = rt.alloc();
-    let context = denied(alloc, 1)?;
     let literals = two(alloc, 1)?;
-    let mut cursor = Cursor::new(alloc, &literals, Some(0), Some(0), &context);
-    assert!(rt; !cursor.advance()?);
-    let mut cursor = Cursor::new(alloc, &literals, Some(1), Some(0), &context);
-    assert!(rt; goes_to(&mut cursor, &[1])? && !cursor.advance()?);
+    assert!(rt; are(alloc, &literals, Some(0), Limits::of_remainder(Some(0)), &[])?);
+    Ok(())
+}
+
+/// The same without its second place.
+#[test]
+fn the_last_place_may_be_skipped(rt: HostRuntime) -> Result<(), Fail> {
+    let alloc = rt.alloc();
+    let literals = two(alloc, 1)?;
+    assert!(rt; are(alloc, &literals, Some(1), Limits::of_remainder(Some(0)), &[1])?);
     Ok(())
 }
 

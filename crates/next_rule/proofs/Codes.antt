@@ -9,6 +9,7 @@ use Rattle.me_terms.specs.Order.{Precedes}
 use Rattle.me_terms.specs.declared.atom.Literal.{Literal}
 use Rattle.me_existence.proofs.Codes.{Within}
 use Rattle.me_existence.proofs.Opposed.{tuple_within}
+use Rattle.context_unifier.specs.declared.limits.Limits.{Limits}
 use Rattle.context_unifier.specs.Enumeration.{IsNextTuple}
 
 -- how many tuples of so many positions below n there are
@@ -89,11 +90,11 @@ code_within context literals skip tuple h =
     let P : ℕ → Type 0 = λ z. code (length context) tuple < tuples (length context) z in
     subst P (tuple_width context literals skip tuple h) (code_below (length context) tuple (tuple_within context literals skip tuple h))
 
-pub fewer_left : (context : Context) (literals : List Literal) (skip most : Option ℕ) (at : Option (List ℕ)) (next : List ℕ) → StandsAtOne context literals skip at → IsNextTuple context literals skip most at next → tuples_left (length context) (width skip literals) (Some next) < tuples_left (length context) (width skip literals) at
-fewer_left context literals skip most None next stands is_next =
+pub fewer_left : (context : Context) (literals : List Literal) (skip : Option ℕ) (limits : Limits) (at : Option (List ℕ)) (next : List ℕ) → StandsAtOne context literals skip at → IsNextTuple context literals skip limits at next → tuples_left (length context) (width skip literals) (Some next) < tuples_left (length context) (width skip literals) at
+fewer_left context literals skip limits None next stands is_next =
     let below = code_within context literals skip next is_next.unifier.1.opposite in
     omega (arith, below)
-fewer_left context literals skip most (Some a) next stands is_next =
+fewer_left context literals skip limits (Some a) next stands is_next =
     let o = stands in
     let p = is_next.unifier.1.opposite in
     let below = code_within context literals skip next p in

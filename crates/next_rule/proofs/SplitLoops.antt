@@ -12,9 +12,9 @@ use Rattle.me_terms.specs.Next.{IsFirstRemaining, IsBeyond}
 use Rattle.me_terms.specs.declared.bounds.Bound.{Bound}
 use Rattle.me_terms.specs.declared.bounds.Bounds.{Bounds}
 use Rattle.me_terms.specs.declared.atom.Literal.{Literal}
-use Rattle.context_unifier.specs.Enumeration.{HasUnifier, IsNextTuple, IsLastTuple}
+use Rattle.context_unifier.specs.Enumeration.{no_limits, HasUnifier, IsNextTuple, IsLastTuple}
 use Rattle.context_unifier.specs.Cursors.{CursorValue}
-use Rattle.next_rule.specs.SplitSearches.{size_limit, SplitTuple, SplitsPassed, SplitClause, SplitClauses, TakesSplits, IsFirstRemainingIn, MeetsFirst, Looks, IsSplitResult}
+use Rattle.next_rule.specs.SplitSearches.{split_limits, SplitTuple, SplitsPassed, SplitClause, SplitClauses, TakesSplits, IsFirstRemainingIn, MeetsFirst, Looks, IsSplitResult}
 use Rattle.next_rule.specs.declared.split_state.SplitCandidate.{SplitCandidate}
 use Rattle.next_rule.specs.declared.split_state.SplitState.{SplitState}
 use Rattle.next_rule.proofs.Cursors.{IsCursor, Advances, limited}
@@ -25,19 +25,19 @@ use Rattle.next_rule.proofs.FirstMet.{InTurn, meets_none, meets_same, meets_then
 module _ (problem : ProblemValue) (bounds : Bounds) (context : Context) where
   -- After a look at the tuples of a clause that the cursor has passed.
   pub record SplitsSoFar (c : ℕ) (clause : ClauseValue) (cursor : CursorValue) (first state : SplitState) : Type 0 where
-    pub over : IsCursor context clause.literals None (size_limit state.best) cursor
+    pub over : IsCursor context clause.literals None (split_limits state.best) cursor
     pub looks : Looks problem bounds context (SplitsPassed c cursor.at) first state
 
   -- ---- the tuples of a clause
   module _ (c : ℕ) (clause : ClauseValue) (at_clause : ClauseAt problem c clause) where
-    productive_at : (c' : ℕ) (tuple : List ℕ) (other : ClauseValue) (f : Family) → c' ≡ c → IsProductiveUnifier problem context c' tuple other f → HasUnifier context clause.literals None None tuple
+    productive_at : (c' : ℕ) (tuple : List ℕ) (other : ClauseValue) (f : Family) → c' ≡ c → IsProductiveUnifier problem context c' tuple other f → HasUnifier context clause.literals None no_limits tuple
     productive_at c' tuple other f same p =
-        let Q : ClauseValue → Type 0 = λ z. HasUnifier context z.literals None None tuple in
-        subst Q (clause_of problem bounds context c clause at_clause c' other same p.clause_at) (f, p.unifier, tt)
+        let Q : ClauseValue → Type 0 = λ z. HasUnifier context z.literals None no_limits tuple in
+        subst Q (clause_of problem bounds context c clause at_clause c' other same p.clause_at) (f, p.unifier, record { remains = tt; weighs = tt })
 
-    tuple_turn : (at : Option (List ℕ)) (next : List ℕ) → IsNextTuple context clause.literals None None at next → InTurn problem bounds context (SplitsPassed c at) (SplitTuple c next) (SplitsPassed c (Some next))
+    tuple_turn : (at : Option (List ℕ)) (next : List ℕ) → IsNextTuple context clause.literals None no_limits at next → InTurn problem bounds context (SplitsPassed c at) (SplitTuple c next) (SplitsPassed c (Some next))
     tuple_turn at next is_next = record {
-      split = λ c' tuple other f r p. elim (passed_or_here context clause.literals None None at next tuple is_next (productive_at c' tuple other f r.0 p) r.1) as (λ _. SplitsPassed c at c' tuple ⊎ SplitTuple c next c' tuple) [ inl h ↦ inl (r.0, h) | inr e ↦ inr (r.0, e) ];
+      split = λ c' tuple other f r p. elim (passed_or_here context clause.literals None no_limits at next tuple is_next (productive_at c' tuple other f r.0 p) r.1) as (λ _. SplitsPassed c at c' tuple ⊎ SplitTuple c next c' tuple) [ inl h ↦ inl (r.0, h) | inr e ↦ inr (r.0, e) ];
       left = λ c' tuple s. (s.0, passed_still at next tuple is_next.later s.1);
       right = λ c' tuple t. (t.0, passed_here next tuple t.1);
       before = λ c1 c2 tuple1 tuple2 s t.
@@ -46,34 +46,34 @@ module _ (problem : ProblemValue) (bounds : Bounds) (context : Context) where
           inr (omega (arith, a, b), subst P (sym t.1) (passed_precedes at tuple1 next s.1 is_next.later));
     }
 
-    looks_then : (at : Option (List ℕ)) (next : List ℕ) (a b d : SplitState) → IsNextTuple context clause.literals None (size_limit b.best) at next → Looks problem bounds context (SplitsPassed c at) a b → Looks problem bounds context (SplitTuple c next) b d → Looks problem bounds context (SplitsPassed c (Some next)) a d
+    looks_then : (at : Option (List ℕ)) (next : List ℕ) (a b d : SplitState) → IsNextTuple context clause.literals None (split_limits b.best) at next → Looks problem bounds context (SplitsPassed c at) a b → Looks problem bounds context (SplitTuple c next) b d → Looks problem bounds context (SplitsPassed c (Some next)) a d
     looks_then at next a b d is_next f g = record {
       takes = split_tuple_step problem bounds context c clause at_clause at next a.best b.best d.best is_next f.takes g.takes;
       meets = λ e.
           let none = none_before problem bounds context (SplitTuple c next) b.best d.best g.takes e in
-          let P : Option SplitCandidate → Type 0 = λ z. IsNextTuple context clause.literals None (size_limit z) at next in
+          let P : Option SplitCandidate → Type 0 = λ z. IsNextTuple context clause.literals None (split_limits z) at next in
           meets_then problem bounds context (SplitsPassed c at) (SplitTuple c next) (SplitsPassed c (Some next)) (tuple_turn at next (subst P none is_next)) a.met b.met d.met (f.meets none) (g.meets e);
     }
 
-    pub splits_so_far : (old moved new : CursorValue) (items : List ℕ) (a b d : SplitState) → SplitsSoFar c clause old a b → Advances context clause.literals None (size_limit b.best) old moved → moved.at ≡ Some items → Looks problem bounds context (SplitTuple c items) b d → new ≡ record moved { most = size_limit d.best } → SplitsSoFar c clause new a d
+    pub splits_so_far : (old moved new : CursorValue) (items : List ℕ) (a b d : SplitState) → SplitsSoFar c clause old a b → Advances context clause.literals None (split_limits b.best) old moved → moved.at ≡ Some items → Looks problem bounds context (SplitTuple c items) b d → new ≡ record moved { limits = split_limits d.best } → SplitsSoFar c clause new a d
     splits_so_far old moved new items a b d so_far moves shown looks e =
         let P : List ℕ → Type 0 = λ z. Looks problem bounds context (SplitTuple c z) b d in
         let Q : Option (List ℕ) → Type 0 = λ z. Looks problem bounds context (SplitsPassed c z) a d in
         let still : new.at ≡ moved.at = ap (λ (z : CursorValue). z.at) e in
         record {
-          over = limited context clause.literals None (size_limit b.best) moved new (size_limit d.best) moves.over e;
+          over = limited context clause.literals None (split_limits b.best) moved new (split_limits d.best) moves.over e;
           looks = subst Q (sym (still ∙ moves.stands)) (looks_then old.at moves.tuple a b d moves.is_next so_far.looks (subst P (same_Some items moves.tuple (sym shown ∙ moves.stands)) looks));
         }
 
-    pub splits_all : (cursor : CursorValue) (a b : SplitState) → SplitsSoFar c clause cursor a b → IsLastTuple context clause.literals None (size_limit b.best) cursor.at → Looks problem bounds context (SplitClause c) a b
+    pub splits_all : (cursor : CursorValue) (a b : SplitState) → SplitsSoFar c clause cursor a b → IsLastTuple context clause.literals None (split_limits b.best) cursor.at → Looks problem bounds context (SplitClause c) a b
     splits_all cursor a b so_far last = record {
       takes = split_tuples_end problem bounds context c clause at_clause cursor.at a.best b.best last so_far.looks.takes;
       meets = λ e.
-          let P : Option SplitCandidate → Type 0 = λ z. IsLastTuple context clause.literals None (size_limit z) cursor.at in
+          let P : Option SplitCandidate → Type 0 = λ z. IsLastTuple context clause.literals None (split_limits z) cursor.at in
           meets_same problem bounds context (SplitsPassed c cursor.at) (SplitClause c) a.met b.met (λ c' tuple other f r p. (r, subst P e last tuple (productive_at c' tuple other f r p))) (λ c' tuple s. s.0) (so_far.looks.meets e);
     }
 
-    pub splits_begin : (cursor : CursorValue) (a : SplitState) → IsCursor context clause.literals None (size_limit a.best) cursor → cursor.at ≡ None → SplitsSoFar c clause cursor a a
+    pub splits_begin : (cursor : CursorValue) (a : SplitState) → IsCursor context clause.literals None (split_limits a.best) cursor → cursor.at ≡ None → SplitsSoFar c clause cursor a a
     splits_begin cursor a over e =
         let Q : Option (List ℕ) → Type 0 = λ z. Looks problem bounds context (SplitsPassed c z) a a in
         record {

@@ -12,13 +12,13 @@ use Rattle.me_terms.specs.declared.bounds.Bounds.{Bounds}
 use Rattle.me_laws.proofs.Determined.{clause_same, precedes_antisymmetric}
 use Rattle.context_unifier.specs.Enumeration.{IsWithin, IsLater, HasUnifier, IsNextTuple, IsLastTuple}
 use Rattle.next_rule.specs.Best.{Improves}
-use Rattle.next_rule.specs.SplitSearches.{SplitAt, split_rank, size_limit, SplitRegion, SplitTuple, SplitsPassed, SplitClause, SplitClauses, TakesSplits}
+use Rattle.next_rule.specs.SplitSearches.{SplitAt, split_rank, size_limit, split_limits, SplitRegion, SplitTuple, SplitsPassed, SplitClause, SplitClauses, TakesSplits}
 use Rattle.next_rule.specs.declared.split_state.SplitCandidate.{SplitCandidate}
 use Rattle.next_rule.proofs.Codes.{tuple_width}
 use Rattle.next_rule.proofs.Keys.{same_key, rank_decides, rest_decides, followed}
 use Rattle.next_rule.proofs.Sizes.{improves_within}
 use Rattle.next_rule.proofs.Updating.{RankDecides, StandsBefore, AreBoth, updates_none, updates_then}
-use Rattle.next_rule.proofs.Tuples.{later_decided, not_later, passed_precedes, passed_here}
+use Rattle.next_rule.proofs.Tuples.{later_decided, not_later, passed_precedes, passed_not, passed_here}
 
 -- ---- parts of the tuples of a clause
 -- those that come after one that a cursor stands at, and before another
@@ -66,12 +66,12 @@ module _ (problem : ProblemValue) (bounds : Bounds) (context : Context) where
         subst Q (clause_of x.clause f.clause same f.productive.clause_at) f.productive.unifier.opposite
 
     -- what improves on the best candidate so far is no larger
-    small_unifier : (best : Option SplitCandidate) (x : Candidate) → x.clause ≡ c → Improves split_rank best (given x) → HasUnifier context clause.literals None (size_limit best) x.tuple
+    small_unifier : (best : Option SplitCandidate) (x : Candidate) → x.clause ≡ c → Improves split_rank best (given x) → HasUnifier context clause.literals None (split_limits best) x.tuple
     small_unifier best x same improves =
         let f = x.holds in
         let P : ℕ → Type 0 = λ z. IsWithin (size_limit best) z in
-        let Q : ClauseValue → Type 0 = λ z. HasUnifier context z.literals None (size_limit best) x.tuple in
-        subst Q (clause_of x.clause f.clause same f.productive.clause_at) (f.family, f.productive.unifier, subst P f.size_of (improves_within best (given x) improves))
+        let Q : ClauseValue → Type 0 = λ z. HasUnifier context z.literals None (split_limits best) x.tuple in
+        subst Q (clause_of x.clause f.clause same f.productive.clause_at) (f.family, f.productive.unifier, record { remains = subst P f.size_of (improves_within best (given x) improves); weighs = tt })
 
     in_turn : (x y : Candidate) → x.clause ≡ c → y.clause ≡ c → Precedes x.tuple y.tuple → ¬ (x.tuple ≡ y.tuple) → Precedes (x.clause ∷ (x.tuple ++ x.place ∷ [])) (y.clause ∷ (y.tuple ++ y.place ∷ []))
     in_turn x y a b before apart =
@@ -81,12 +81,9 @@ module _ (problem : ProblemValue) (bounds : Bounds) (context : Context) where
         )
 
     -- where a cursor has gone from one tuple to another, those between them have larger remainders
-    between : (at : Option (List ℕ)) (next : List ℕ) (best : Option SplitCandidate) → IsNextTuple context clause.literals None (size_limit best) at next → TakesSplits problem bounds context (SplitsBetween c at next) best best
+    between : (at : Option (List ℕ)) (next : List ℕ) (best : Option SplitCandidate) → IsNextTuple context clause.literals None (split_limits best) at next → TakesSplits problem bounds context (SplitsBetween c at next) best best
     between at next best is_next =
         inl (refl, λ x s improves. s.3 (precedes_antisymmetric x.tuple next s.2 (is_next.least x.tuple (small_unifier best x s.0 improves) s.1)))
-
-    passed_not : (at : Option (List ℕ)) (tuple later : List ℕ) → ¬ IsLater at tuple → IsLater at later → ¬ (tuple ≡ later)
-    passed_not at tuple later passed h same = let P : List ℕ → Type 0 = λ z. IsLater at z in passed (subst P (sym same) h)
 
     between_both : (at : Option (List ℕ)) (next : List ℕ) → IsLater at next → AreBoth {C = Candidate} given split_rank key (Within (SplitsPassed c at)) (Within (SplitsBetween c at next)) (Within (SplitsBefore c next))
     between_both at next later = record {
@@ -113,7 +110,7 @@ module _ (problem : ProblemValue) (bounds : Bounds) (context : Context) where
     passed_between : (at : Option (List ℕ)) (x y : Candidate) → x.clause ≡ c → y.clause ≡ c → ¬ IsLater at x.tuple → IsLater at y.tuple → Precedes (x.clause ∷ (x.tuple ++ x.place ∷ [])) (y.clause ∷ (y.tuple ++ y.place ∷ []))
     passed_between at x y a b passed later = in_turn x y a b (passed_precedes at x.tuple y.tuple passed later) (passed_not at x.tuple y.tuple passed later)
 
-    pub split_tuple_step : (at : Option (List ℕ)) (next : List ℕ) (a b d : Option SplitCandidate) → IsNextTuple context clause.literals None (size_limit b) at next → TakesSplits problem bounds context (SplitsPassed c at) a b → TakesSplits problem bounds context (SplitTuple c next) b d → TakesSplits problem bounds context (SplitsPassed c (Some next)) a d
+    pub split_tuple_step : (at : Option (List ℕ)) (next : List ℕ) (a b d : Option SplitCandidate) → IsNextTuple context clause.literals None (split_limits b) at next → TakesSplits problem bounds context (SplitsPassed c at) a b → TakesSplits problem bounds context (SplitTuple c next) b d → TakesSplits problem bounds context (SplitsPassed c (Some next)) a d
     split_tuple_step at next a b d is_next f g =
         let before : TakesSplits problem bounds context (SplitsBefore c next) a b = updates_then given split_rank key (Within (SplitsPassed c at)) (Within (SplitsBetween c at next)) (Within (SplitsBefore c next)) decides
         (stands (SplitsPassed c at) (SplitsBetween c at next) (λ x y s t. passed_between at x y s.0 t.0 s.1 t.1))
@@ -129,7 +126,7 @@ module _ (problem : ProblemValue) (bounds : Bounds) (context : Context) where
       right = λ x q. q.0;
     }
 
-    pub split_tuples_end : (at : Option (List ℕ)) (a b : Option SplitCandidate) → IsLastTuple context clause.literals None (size_limit b) at → TakesSplits problem bounds context (SplitsPassed c at) a b → TakesSplits problem bounds context (SplitClause c) a b
+    pub split_tuples_end : (at : Option (List ℕ)) (a b : Option SplitCandidate) → IsLastTuple context clause.literals None (split_limits b) at → TakesSplits problem bounds context (SplitsPassed c at) a b → TakesSplits problem bounds context (SplitClause c) a b
     split_tuples_end at a b last f =
         let rest : TakesSplits problem bounds context (SplitsLeft c at) b b = inl (refl, λ x s improves. last x.tuple (small_unifier b x s.0 improves) s.1) in
         updates_then given split_rank key (Within (SplitsPassed c at)) (Within (SplitsLeft c at)) (Within (SplitClause c)) decides

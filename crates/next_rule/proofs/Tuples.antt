@@ -6,6 +6,7 @@ use Rattle.me_terms.specs.declared.atom.Literal.{Literal}
 use Rattle.me_laws.proofs.Determined.{precedes_antisymmetric}
 use Rattle.me_laws.proofs.Decisions.{both_decided, not_decided}
 use Rattle.me_existence.proofs.Best.{precedes_itself, precedes_transitive, precedes_total}
+use Rattle.context_unifier.specs.declared.limits.Limits.{Limits}
 use Rattle.context_unifier.specs.Enumeration.{IsLater, HasUnifier, IsNextTuple}
 use Rattle.next_rule.proofs.Keys.{same_key}
 
@@ -39,6 +40,10 @@ pub passed_precedes : (at : Option (List ℕ)) (tuple next : List ℕ) → ¬ Is
 passed_precedes None tuple next passed later = absurd (passed tt)
 passed_precedes (Some a) tuple next passed later = precedes_transitive tuple a next (not_later a tuple passed) later.0
 
+-- and is not that one
+pub passed_not : (at : Option (List ℕ)) (tuple later : List ℕ) → ¬ IsLater at tuple → IsLater at later → ¬ (tuple ≡ later)
+passed_not at tuple later passed h same = let P : List ℕ → Type 0 = λ z. IsLater at z in passed (subst P (sym same) h)
+
 -- what was passed stays so
 pub passed_still : (at : Option (List ℕ)) (next tuple : List ℕ) → IsLater at next → ¬ IsLater at tuple → ¬ IsLater (Some next) tuple
 passed_still at next tuple later passed again = again.1 (precedes_antisymmetric tuple next (passed_precedes at tuple next passed later) again.0)
@@ -47,9 +52,9 @@ passed_still at next tuple later passed again = again.1 (precedes_antisymmetric 
 pub passed_here : (next tuple : List ℕ) → tuple ≡ next → ¬ IsLater (Some next) tuple
 passed_here next tuple e again = again.1 e
 
-module _ (context : Context) (literals : List Literal) (skip most : Option ℕ) where
+module _ (context : Context) (literals : List Literal) (skip : Option ℕ) (limits : Limits) where
   -- where a cursor has gone to the next tuple, it has passed what it had, and that tuple
-  pub passed_or_here : (at : Option (List ℕ)) (next tuple : List ℕ) → IsNextTuple context literals skip most at next → HasUnifier context literals skip most tuple → ¬ IsLater (Some next) tuple → (¬ IsLater at tuple) ⊎ (tuple ≡ next)
+  pub passed_or_here : (at : Option (List ℕ)) (next tuple : List ℕ) → IsNextTuple context literals skip limits at next → HasUnifier context literals skip limits tuple → ¬ IsLater (Some next) tuple → (¬ IsLater at tuple) ⊎ (tuple ≡ next)
   passed_or_here at next tuple is_next has passed =
       elim (later_decided at tuple) as (λ _. (¬ IsLater at tuple) ⊎ (tuple ≡ next)) [
         | inl later ↦ inr (precedes_antisymmetric tuple next (not_later next tuple passed) (is_next.least tuple has later))

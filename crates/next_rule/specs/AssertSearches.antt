@@ -1,10 +1,13 @@
 -- Searches for the least Assert.
-use Rattle.std.specs.Prelude.{◌≡◌, ℕ, ◌<◌, List, [], ◌∷◌, Option}
+use Rattle.std.specs.Prelude.{◌≡◌, ℕ, ◌-◌, ◌<◌, min, List, [], ◌∷◌, Option, Some, None}
 use Rattle.me_terms.specs.Values.{ProblemValue, EntryValue}
 use Rattle.me_terms.specs.Context.{Context}
 use Rattle.me_terms.specs.Assert.{IsAssert}
 use Rattle.me_terms.specs.Order.{kind_rank, pattern_weight, assert_key}
 use Rattle.me_terms.specs.declared.bounds.Bounds.{Bounds}
+use Rattle.me_terms.specs.declared.entry.Kind.{Kind}
+use Rattle.me_terms.specs.declared.entry.Kind.TheVariants.{Universal, Parametric}
+use Rattle.context_unifier.specs.declared.limits.Limits.{Limits}
 use Rattle.context_unifier.specs.Enumeration.{IsLater}
 use Rattle.next_rule.specs.Best.{Updates}
 
@@ -19,6 +22,20 @@ pub record AssertCandidate (problem : ProblemValue) (bounds : Bounds) (context :
 -- By kind, then weight.
 abbrev pub assert_rank : EntryValue → List ℕ
 assert_rank e = kind_rank e.kind ∷ pattern_weight e.atom ∷ []
+
+-- Of what comes before an entry of a kind and weight, the most that it may weigh, where nothing may weigh more than a bound: less than a Universal entry. Before a Parametric one a Universal one comes that may be heavier.
+abbrev pub weight_before : ℕ → Kind → ℕ → ℕ
+weight_before most Universal weight = min most (weight - 1)
+weight_before most Parametric weight = most
+
+-- The most that what comes before the best entry so far may weigh; where there is none, the bound.
+abbrev pub weight_limit : Bounds → Option EntryValue → ℕ
+weight_limit bounds None = bounds.weight
+weight_limit bounds (Some best) = weight_before bounds.weight best.kind (pattern_weight best.atom)
+
+-- The limits of the unifiers whose Asserts may come before the best entry so far: nothing remains, and the literal is light enough.
+abbrev pub assert_limits : Bounds → Option EntryValue → Limits
+assert_limits bounds best = record { remaining = Some 0; weight = Some (weight_limit bounds best) }
 
 -- Some of the places of clauses and their tuples.
 abbrev pub AssertRegion : Type 1

@@ -15,7 +15,8 @@ use Rattle.me_terms.specs.declared.bounds.Bound.{Bound}
 use Rattle.me_terms.specs.declared.bounds.Bounds.{Bounds}
 use Rattle.me_terms.specs.declared.atom.Literal.{Literal}
 use Rattle.me_unify.specs.Equations.{IsMostGeneral}
-use Rattle.context_unifier.specs.Enumeration.{IsLater}
+use Rattle.context_unifier.specs.declared.limits.Limits.{Limits}
+use Rattle.context_unifier.specs.Enumeration.{remainder_limit, IsLater}
 use Rattle.joint_unifiers.specs.ClauseUnifiers.{UnifierValue, IsUnifierOf}
 use Rattle.next_rule.specs.declared.split_state.SplitCandidate.{SplitCandidate}
 use Rattle.next_rule.specs.declared.split_state.SplitState.{SplitState}
@@ -44,6 +45,9 @@ IsSmaller size weight (Some best) = (size < best.size) ⊎ ((size ≡ best.size)
 abbrev pub size_limit : Option SplitCandidate → Option ℕ
 size_limit None = None
 size_limit (Some best) = Some best.size
+
+abbrev pub split_limits : Option SplitCandidate → Limits
+split_limits best = remainder_limit (size_limit best)
 
 -- Some clauses and tuples.
 abbrev pub SplitRegion : Type 1

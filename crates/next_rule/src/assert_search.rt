@@ -8,6 +8,7 @@ ghost use Rattle.me_terms.specs.Order.{IsLeastAssert};
 ghost use Rattle.next_rule.specs.FewPlaces.{HasFewPlaces};
 ghost use Rattle.next_rule.specs.AssertSearches.{AssertTuple, AssertPlace, AssertClause, AssertClauses, TakesAsserts};
 
+use crate::assert_limits::limits_before;
 use crate::search::Search;
 use assert_rule::{Candidate, assert_before};
 use context_unifier::Cursor;
@@ -47,7 +48,8 @@ impl<'a, V: View> Search<'a, V> {
         }
     }
 
-    /// The best entry so far, or that of the least Assert of the place where it comes before.
+    /// The best entry so far, or that of the least Assert of the place where it comes before. A tuple is left
+    /// at the first positions that show that what it asserts is too heavy.
     fn asserts_of_place(
         &self,
         clause: &Clause,
@@ -61,15 +63,17 @@ impl<'a, V: View> Search<'a, V> {
         requires bounds { IsLawful self.now.bounds.now }
         ensures { IfOk result (λ better. TakesAsserts self.now.problem.now self.now.bounds.now (V.context self.now.view.now) (AssertPlace index place) best better) }
     {
+        let limits = limits_before(self.alloc, self.bounds, &best)?;
         let mut cursor = Cursor::new(
             self.alloc,
             &clause.literals,
             Some(place),
-            Some(0),
+            limits,
             self.view,
         );
         while cursor.advance()? {
             best = self.assert_at(clause, index, place, cursor.tuple(), best)?;
+            cursor.limit(limits_before(self.alloc, self.bounds, &best)?)?;
         }
         Ok(best)
     }

@@ -2,11 +2,11 @@
 ghost use Rattle.std.specs.Prelude.{◌<◌, ◌-◌, ◌^◌, Some, None, length, IfOk, IfSome, IfNone};
 ghost use Rattle.me_terms.specs.Close.{HasClose};
 ghost use Rattle.me_terms.specs.Order.{IsLeastClose};
-ghost use Rattle.context_unifier.specs.Enumeration.{IsNextTuple, IsLastTuple};
+ghost use Rattle.context_unifier.specs.Enumeration.{remainder_limit, IsNextTuple, IsLastTuple};
 ghost use Rattle.next_rule.specs.FewPlaces.{HasFewPlaces};
 
 use crate::search::Search;
-use context_unifier::Cursor;
+use context_unifier::{Cursor, Limits};
 use me_terms::{Clause, Tuple, View};
 use std::alloc::AllocError;
 
@@ -21,10 +21,11 @@ impl<'a, V: View> Search<'a, V> {
     /// The first tuple with which the clause has a unifier without a remainder.
     fn closing_tuple(&self, clause: &Clause) -> Result<Option<Tuple>, AllocError>
         requires { length clause.now.literals < 2 ^ 32 - 1 }
-        ensures some { IfOk result (λ r. IfSome r (λ t. IsNextTuple (V.context self.now.view.now) clause.now.literals None (Some 0) None t.items)) }
-        ensures none { IfOk result (λ r. IfNone r (IsLastTuple (V.context self.now.view.now) clause.now.literals None (Some 0) None)) }
+        ensures some { IfOk result (λ r. IfSome r (λ t. IsNextTuple (V.context self.now.view.now) clause.now.literals None (remainder_limit (Some 0)) None t.items)) }
+        ensures none { IfOk result (λ r. IfNone r (IsLastTuple (V.context self.now.view.now) clause.now.literals None (remainder_limit (Some 0)) None)) }
     {
-        let mut cursor = Cursor::new(self.alloc, &clause.literals, None, Some(0), self.view);
+        let limits = Limits::of_remainder(Some(0));
+        let mut cursor = Cursor::new(self.alloc, &clause.literals, None, limits, self.view);
         if !cursor.advance()? {
             return Ok(None);
         }

@@ -4,6 +4,7 @@
 //! else the first literal that is left to split on says which bound is met, or nothing is left to do.
 #![tactic(auto)]
 
+mod assert_limits;
 mod assert_search;
 mod close_search;
 mod next;

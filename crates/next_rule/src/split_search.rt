@@ -157,10 +157,16 @@ impl<'a, V: View> Search<'a, V> {
         requires few { length clause.now.literals < 2 ^ 32 - 1 }
         ensures { IfOk result (λ new. Looks self.now.problem.now self.now.bounds.now (V.context self.now.view.now) (SplitClause index) state new) }
     {
-        let mut cursor = Cursor::new(self.alloc, &clause.literals, None, state.most(), self.view);
+        let mut cursor = Cursor::new(
+            self.alloc,
+            &clause.literals,
+            None,
+            state.limits(),
+            self.view,
+        );
         while cursor.advance()? {
             state = self.look_at(clause, index, cursor.tuple(), state)?;
-            cursor.limit(state.most())?;
+            cursor.limit(state.limits())?;
         }
         Ok(state)
     }

@@ -2,8 +2,9 @@
 ghost use Rattle.std.specs.Prelude.{◌≡◌, ◌⊎◌, IsSome, IsTrue, ◌↔◌};
 ghost use Rattle.me_terms.specs.Next as step;
 ghost use Rattle.me_terms.specs.AnswerViews.{next_value};
-ghost use Rattle.next_rule.specs.SplitSearches.{IsSmaller, size_limit};
+ghost use Rattle.next_rule.specs.SplitSearches.{IsSmaller, split_limits};
 
+use context_unifier::Limits;
 use me_terms::{Bound, Kind, Literal, Next};
 
 /// A literal that may be split on.
@@ -48,13 +49,13 @@ impl SplitState {
         }
     }
 
-    /// The most places that the remainder of a better literal may have, if there is a literal.
-    pub(crate) fn most(&self) -> Option<u64>
-        ensures { result ≡ size_limit self.now.best }
+    /// What the unifier of a better literal may have at most.
+    pub(crate) fn limits(&self) -> Limits
+        ensures { result ≡ split_limits self.now.best }
     {
         match &self.best {
-            Some(best) => Some(best.size),
-            None => None,
+            Some(best) => Limits::of_remainder(Some(best.size)),
+            None => Limits::none(),
         }
     }
 

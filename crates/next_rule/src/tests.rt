@@ -23,37 +23,20 @@ fn label(alloc: Global, byte: u8) -> Result<Label, AllocError> {
     })
 }
 
+fn symbol(alloc: Global, byte: u8, arity: u32) -> Result<Symbol, AllocError> {
+    Ok(Symbol {
+        label: label(alloc, byte)?,
+        arity,
+    })
+}
+
 /// A constant a, a function f and a predicate p of one argument.
 fn signature(alloc: Global) -> Result<Signature, AllocError> {
     let mut signature = Signature::new(alloc);
-    let constant = Symbol {
-        label: label(alloc, b'a')?,
-        arity: 0,
-    };
-    signature.add_fun(constant)?;
-    let function = Symbol {
-        label: label(alloc, b'f')?,
-        arity: 1,
-    };
-    signature.add_fun(function)?;
-    let predicate = Symbol {
-        label: label(alloc, b'p')?,
-        arity: 1,
-    };
-    signature.add_pred(predicate)?;
+    signature.add_fun(symbol(alloc, b'a', 0)?)?;
+    signature.add_fun(symbol(alloc, b'f', 1)?)?;
+    signature.add_pred(symbol(alloc, b'p', 1)?)?;
     Ok(signature)
-}
-
-/// The predicate of the term.
-fn literal(alloc: Global, positive: bool, term: Term) -> Result<Literal, AllocError> {
-    let mut args = Terms::new(alloc);
-    let Ok(()) = args.push(term) else {
-        return Err(AllocError);
-    };
-    Ok(Literal {
-        positive,
-        atom: Atom { pred: 0, args },
-    })
 }
 
 fn constant(alloc: Global) -> Term {
@@ -63,154 +46,195 @@ fn constant(alloc: Global) -> Term {
     }
 }
 
+fn terms(alloc: Global, term: Term) -> Result<Terms, AllocError> {
+    let mut args = Terms::new(alloc);
+    match args.push(term) {
+        Ok(()) => Ok(args),
+        Err(_) => Err(AllocError),
+    }
+}
+
 /// f(a)
 fn deep(alloc: Global) -> Result<Term, AllocError> {
-    let mut args = Terms::new(alloc);
-    let Ok(()) = args.push(constant(alloc)) else {
-        return Err(AllocError);
-    };
+    let args = terms(alloc, constant(alloc))?;
     Ok(Term::App { f: 1, args })
 }
 
-fn add(literals: &mut Literals, literal: Literal) -> Result<(), AllocError> {
+/// The predicate of the term.
+fn literal(alloc: Global, positive: bool, term: Term) -> Result<Literal, AllocError> {
+    let args = terms(alloc, term)?;
+    Ok(Literal {
+        positive,
+        atom: Atom { pred: 0, args },
+    })
+}
+
+/// The literals with one more.
+fn with(literals: Literals, literal: Literal) -> Result<Literals, AllocError> {
+    let mut literals = literals;
     match literals.push(literal) {
-        Ok(()) => Ok(()),
+        Ok(()) => Ok(literals),
+        Err(_) => Err(AllocError),
+    }
+}
+
+/// p(a)
+fn of_constant(alloc: Global) -> Result<Literals, AllocError> {
+    with(
+        Literals::new(alloc),
+        literal(alloc, true, constant(alloc))?,
+    )
+}
+
+/// p(f(a))
+fn of_deep(alloc: Global) -> Result<Literals, AllocError> {
+    with(Literals::new(alloc), literal(alloc, true, deep(alloc)?)?)
+}
+
+/// ~p(X)
+fn negative(alloc: Global) -> Result<Literals, AllocError> {
+    with(Literals::new(alloc), literal(alloc, false, Term::Var(0))?)
+}
+
+/// ~p(X) | ~p(X)
+fn negative_twice(alloc: Global) -> Result<Literals, AllocError> {
+    with(negative(alloc)?, literal(alloc, false, Term::Var(0))?)
+}
+
+/// p(a) | p(X)
+fn pair(alloc: Global) -> Result<Literals, AllocError> {
+    with(of_constant(alloc)?, literal(alloc, true, Term::Var(0))?)
+}
+
+/// p(a) | p(X) | p(a)
+fn longer(alloc: Global) -> Result<Literals, AllocError> {
+    with(pair(alloc)?, literal(alloc, true, constant(alloc))?)
+}
+
+fn clause(alloc: Global, number: u32, byte: u8, literals: Literals) -> Result<Clause, AllocError> {
+    Ok(Clause {
+        number,
+        label: label(alloc, byte)?,
+        literals,
+    })
+}
+
+/// The clauses with one more.
+fn and(clauses: Clauses, clause: Clause) -> Result<Clauses, AllocError> {
+    let mut clauses = clauses;
+    match clauses.push(clause) {
+        Ok(()) => Ok(clauses),
         Err(_) => Err(AllocError),
     }
 }
 
 fn problem(alloc: Global, first: Literals, second: Literals) -> Result<Problem, AllocError> {
-    let mut clauses = Clauses::new(alloc);
-    let first = Clause {
-        number: 1,
-        label: label(alloc, b'b')?,
-        literals: first,
-    };
-    let Ok(()) = clauses.push(first) else {
-        return Err(AllocError);
-    };
-    let second = Clause {
-        number: 2,
-        label: label(alloc, b'c')?,
-        literals: second,
-    };
-    let Ok(()) = clauses.push(second) else {
-        return Err(AllocError);
-    };
+    let clauses = and(Clauses::new(alloc), clause(alloc, 1, b'b', first)?)?;
     Ok(Problem {
-        clauses,
+        clauses: and(clauses, clause(alloc, 2, b'c', second)?)?,
         signature: signature(alloc)?,
         c0: 0,
     })
 }
 
-/// p(a)
-fn of_constant(alloc: Global) -> Result<Literals, AllocError> {
-    let mut literals = Literals::new(alloc);
-    add(&mut literals, literal(alloc, true, constant(alloc))?)?;
-    Ok(literals)
-}
-
-/// p(f(a))
-fn of_deep(alloc: Global) -> Result<Literals, AllocError> {
-    let mut literals = Literals::new(alloc);
-    add(&mut literals, literal(alloc, true, deep(alloc)?)?)?;
-    Ok(literals)
-}
-
-/// ~p(X)
-fn negative(alloc: Global) -> Result<Literals, AllocError> {
-    let mut literals = Literals::new(alloc);
-    add(&mut literals, literal(alloc, false, Term::Var(0))?)?;
-    Ok(literals)
-}
-
-/// p(X) | p(a)
-fn pair(alloc: Global) -> Result<Literals, AllocError> {
-    let mut literals = Literals::new(alloc);
-    add(&mut literals, literal(alloc, true, Term::Var(0))?)?;
-    add(&mut literals, literal(alloc, true, constant(alloc))?)?;
-    Ok(literals)
-}
-
-fn bounds(weight: u64, literals: u32) -> Bounds
+fn bounds(depth: u32, weight: u64, literals: u32) -> Bounds
+    requires depth { (1 ≤ depth) × (depth ≤ 64) }
     requires weight { (1 ≤ weight) × (weight ≤ 100000) }
     requires literals { (1 ≤ literals) × (literals ≤ 65535) }
     ensures { IsLawful result }
 {
     Bounds {
-        depth: 1,
+        depth,
         weight,
         literals,
         list: 1,
     }
 }
 
-/// The first step of the problem.
-fn step(alloc: Global, problem: &Problem, bounds: &Bounds) -> Result<Next, Fail>
+/// What a step is, and of which clause it is.
+#[derive(Clone, Copy, Debug, PartialEq, Eq)]
+enum Found {
+    Close(u32),
+    Assert(u32),
+    Split(Kind),
+    Bounded(Bound),
+    Exhausted,
+}
+
+/// The clause that asserts the entry.
+fn clause_of(entry: &Entry) -> u32 {
+    match &entry.reason {
+        Reason::Asserted { clause, .. } => *clause,
+        _ => 9,
+    }
+}
+
+fn found(next: &Next) -> Found {
+    match next {
+        Next::Close { clause, .. } => Found::Close(*clause),
+        Next::Assert { entry } => Found::Assert(clause_of(entry)),
+        Next::Split { kind, .. } => Found::Split(*kind),
+        Next::Bounded { bound } => Found::Bounded(*bound),
+        Next::Exhausted => Found::Exhausted,
+    }
+}
+
+/// The first step of a problem of two clauses.
+fn step(
+    alloc: Global,
+    first: Literals,
+    second: Literals,
+    bounds: &Bounds,
+) -> Result<Found, Fail>
     requires { IsLawful bounds.now }
 {
-    if !is_valid(problem) {
+    let problem = problem(alloc, first, second)?;
+    if !is_valid(&problem) {
         return Err("valid".into());
     }
     let context = Context::new(alloc)?;
-    Ok(next_step(alloc, problem, &context, bounds)?)
-}
-
-fn is_of_first_clause(entry: &Entry) -> bool {
-    match &entry.reason {
-        Reason::Asserted { clause, .. } => *clause == 0,
-        _ => false,
-    }
+    let next = next_step(alloc, &problem, &context, bounds)?;
+    Ok(found(&next))
 }
 
 #[test]
 fn the_second_clause_closes(rt: HostRuntime) -> Result<(), Fail> {
     let alloc = rt.alloc();
-    let empty = problem(alloc, pair(alloc)?, Literals::new(alloc))?;
-    let next = step(alloc, &empty, &bounds(9, 9))?;
-    assert!(rt; matches!(&next, Next::Close { clause: 1, tuple } if tuple.is_empty()));
+    let found = step(alloc, pair(alloc)?, Literals::new(alloc), &bounds(1, 9, 9))?;
+    assert!(rt; found == Found::Close(1));
     Ok(())
 }
 
 #[test]
 fn the_first_of_two_asserts(rt: HostRuntime) -> Result<(), Fail> {
     let alloc = rt.alloc();
-    let units = problem(alloc, of_constant(alloc)?, negative(alloc)?)?;
-    let next = step(alloc, &units, &bounds(9, 9))?;
-    assert!(rt; matches!(&next, Next::Assert { entry } if is_of_first_clause(entry)));
+    let found = step(alloc, of_constant(alloc)?, negative(alloc)?, &bounds(1, 9, 9))?;
+    assert!(rt; found == Found::Assert(0));
+    Ok(())
+}
+
+/// p(f(a)) comes first, and p(a) is lighter by one.
+#[test]
+fn the_lighter_of_two_asserts(rt: HostRuntime) -> Result<(), Fail> {
+    let alloc = rt.alloc();
+    let found = step(alloc, of_deep(alloc)?, of_constant(alloc)?, &bounds(2, 9, 9))?;
+    assert!(rt; found == Found::Assert(1));
     Ok(())
 }
 
 #[test]
 fn a_full_context(rt: HostRuntime) -> Result<(), Fail> {
     let alloc = rt.alloc();
-    let units = problem(alloc, of_constant(alloc)?, negative(alloc)?)?;
-    let next = step(alloc, &units, &bounds(9, 1))?;
-    assert!(rt;
-        matches!(
-            &next,
-            Next::Bounded {
-                bound: Bound::Literals
-            }
-        )
-    );
+    let found = step(alloc, of_constant(alloc)?, negative(alloc)?, &bounds(1, 9, 1))?;
+    assert!(rt; found == Found::Bounded(Bound::Literals));
     Ok(())
 }
 
 #[test]
 fn all_is_too_heavy(rt: HostRuntime) -> Result<(), Fail> {
     let alloc = rt.alloc();
-    let units = problem(alloc, of_constant(alloc)?, negative(alloc)?)?;
-    let next = step(alloc, &units, &bounds(1, 9))?;
-    assert!(rt;
-        matches!(
-            &next,
-            Next::Bounded {
-                bound: Bound::Weight
-            }
-        )
-    );
+    let found = step(alloc, of_constant(alloc)?, negative(alloc)?, &bounds(1, 1, 9))?;
+    assert!(rt; found == Found::Bounded(Bound::Weight));
     Ok(())
 }
 
@@ -218,16 +242,8 @@ fn all_is_too_heavy(rt: HostRuntime) -> Result<(), Fail> {
 #[test]
 fn depth_is_named_before_weight(rt: HostRuntime) -> Result<(), Fail> {
     let alloc = rt.alloc();
-    let units = problem(alloc, of_deep(alloc)?, negative(alloc)?)?;
-    let next = step(alloc, &units, &bounds(1, 9))?;
-    assert!(rt;
-        matches!(
-            &next,
-            Next::Bounded {
-                bound: Bound::Depth
-            }
-        )
-    );
+    let found = step(alloc, of_deep(alloc)?, negative(alloc)?, &bounds(1, 1, 9))?;
+    assert!(rt; found == Found::Bounded(Bound::Depth));
     Ok(())
 }
 
@@ -235,13 +251,8 @@ fn depth_is_named_before_weight(rt: HostRuntime) -> Result<(), Fail> {
 #[test]
 fn nothing_is_left(rt: HostRuntime) -> Result<(), Fail> {
     let alloc = rt.alloc();
-    let mut twice = negative(alloc)?;
-    add(&mut twice, literal(alloc, false, Term::Var(0))?)?;
-    let mut again = negative(alloc)?;
-    add(&mut again, literal(alloc, false, Term::Var(0))?)?;
-    let models = problem(alloc, twice, again)?;
-    let next = step(alloc, &models, &bounds(9, 9))?;
-    assert!(rt; matches!(&next, Next::Exhausted));
+    let found = step(alloc, negative_twice(alloc)?, negative_twice(alloc)?, &bounds(1, 9, 9))?;
+    assert!(rt; found == Found::Exhausted);
     Ok(())
 }
 
@@ -249,18 +260,7 @@ fn nothing_is_left(rt: HostRuntime) -> Result<(), Fail> {
 #[test]
 fn a_split(rt: HostRuntime) -> Result<(), Fail> {
     let alloc = rt.alloc();
-    let mut longer = pair(alloc)?;
-    add(&mut longer, literal(alloc, true, constant(alloc))?)?;
-    let positive = problem(alloc, pair(alloc)?, longer)?;
-    let next = step(alloc, &positive, &bounds(9, 9))?;
-    assert!(rt;
-        matches!(
-            &next,
-            Next::Split {
-                kind: Kind::Parametric,
-                ..
-            }
-        )
-    );
+    let found = step(alloc, pair(alloc)?, longer(alloc)?, &bounds(1, 9, 9))?;
+    assert!(rt; found == Found::Split(Kind::Parametric));
     Ok(())
 }

@@ -1,7 +1,7 @@
 use Rattle.std.proofs.Common.{ℕ, ◌≡◌, length, Some, None, subst, arith}
 use Rattle.std.specs.Prelude.{IfSome, IfNone, Option}
 use Rattle.me_terms.specs.Sequences.{SequenceValue}
-use Rattle.context_unifier.specs.Enumeration.{IsNextTuple, IsLastTuple}
+use Rattle.context_unifier.specs.Enumeration.{remainder_limit, IsNextTuple, IsLastTuple}
 use Rattle.next_rule.proofs.ClauseReads.{clause_read, all_read}
 use Rattle.next_rule.proofs.CloseSteps.{NoneCloses, least_close, none_closes, no_close}
 use Rattle.next_rule.proofs.search.Search.closing.Goals as goal
@@ -11,7 +11,7 @@ returns-in-Some-clause-some g c =
     let problem = c.args.self.now.problem.now in
     let context = g.V.View.context c.args.self.now.view.now in
     let at = clause_read problem _ c.as_slice-clause-items.result.now c.loop-c.c c.clause-item.result c.as_slice-clause-items.ensures c.problem.view_is c.loop-c-test.true c.clause-item.is in
-    let P : Option (SequenceValue ℕ) → Type 0 = λ z. IfSome z (λ t. IsNextTuple context c.clause-item.result.literals None (Some 0) None t.items) in
+    let P : Option (SequenceValue ℕ) → Type 0 = λ z. IfSome z (λ t. IsNextTuple context c.clause-item.result.literals None (remainder_limit (Some 0)) None t.items) in
     least_close problem context c.loop-c.c c.clause-item.result c.in-Some.tuple.items at (subst P c.in-Some.is c.in_ok-tuple.ensures.some) c.loop-c.invariant
 
 pub loop-c-preserved : goal.loop-c-preserved
@@ -19,7 +19,7 @@ loop-c-preserved g c =
     let problem = c.args.self.now.problem.now in
     let context = g.V.View.context c.args.self.now.view.now in
     let at = clause_read problem _ c.as_slice-clause-items.result.now c.loop-c.c c.clause-item.result c.as_slice-clause-items.ensures c.problem.view_is c.loop-c-test.true c.clause-item.is in
-    let P : Option (SequenceValue ℕ) → Type 0 = λ z. IfNone z (IsLastTuple context c.clause-item.result.literals None (Some 0) None) in
+    let P : Option (SequenceValue ℕ) → Type 0 = λ z. IfNone z (IsLastTuple context c.clause-item.result.literals None (remainder_limit (Some 0)) None) in
     none_closes problem context c.loop-c.c c.clause-item.result at (subst P c.in_default.is c.in_ok-tuple.ensures.none) c.loop-c.invariant
 
 pub returns-clause-none : goal.returns-clause-none
