@@ -3,9 +3,10 @@
 
 usage: bench/operations.py [SECONDS]     after `rt run` in crates/darwin_bench; no line is begun after so many seconds
 
-A program has no clock, so each call is timed from outside, and the time of a call that makes the same input and does
-nothing with it is taken off. A call does its work once, twice, four times and so on, until it takes a fifth of a
-second more than that. The best of three such calls is printed, or the one call where it takes 2 s or more.
+A program has no clock, so each call is timed from outside, in processor seconds, which other work on the machine
+changes less. The time of a call that makes the same input and does nothing with it is taken off. A call does its work
+once, twice, four times and so on, until it takes a fifth of a second more than that. The best of five such calls is
+printed, or the one call where it takes 2 s or more.
 
 flat N      p(X1,..,XN) and p(a,..,a).
 deep N      p(f(..f(X)..)) and p(f(..f(a)..)), N symbols f.
@@ -19,6 +20,7 @@ tuples L N  the tuples of p1(X) | .. | pL(X) that have a unifier with the contex
 """
 import math
 import os
+import resource
 import subprocess
 import sys
 import time
@@ -28,14 +30,19 @@ PROGRAM = os.path.join(TOP, "crates", "darwin_bench", "out", "darwin_bench")
 ENOUGH = 0.2
 
 
+def spent():
+    usage = resource.getrusage(resource.RUSAGE_CHILDREN)
+    return usage.ru_utime + usage.ru_stime
+
+
 def run(work, shape, size, times):
     words = [PROGRAM, work, str(shape), str(size), str(times)]
-    begun = time.monotonic()
+    begun = spent()
     ended = subprocess.run(words, stdout=subprocess.PIPE, check=True)
-    return int(ended.stdout), time.monotonic() - begun
+    return int(ended.stdout), spent() - begun
 
 
-def best(work, shape, size, times, calls=3):
+def best(work, shape, size, times, calls=5):
     return min((run(work, shape, size, times) for _ in range(calls)), key=lambda ended: ended[1])
 
 
@@ -66,9 +73,12 @@ def pairs():
     yield "match", "doubling", 100
 
 
+NAMES = {"unify": "unifications", "match": "matches", "tuples": "unifiers"}
+
+
 def report(work, shape, size, count, seconds, more=""):
-    name = "unifiers" if work == "tuples" else "unifications" if work == "unify" else "matches"
-    print(f"{work:6} {shape!s:8} {size:5d} {count:7d} in {seconds * 1e3:11.4f} ms {count / seconds:12.0f} {name}/s {more}", flush=True)
+    done = f"{count:6d} in {seconds * 1e6:12.3f} us {count / seconds:10.0f} {NAMES[work]}/s"
+    print(f"{work:6} {shape!s:8} {size:5d} {done} {more}".rstrip(), flush=True)
 
 
 def lines():
