@@ -70,6 +70,13 @@ impl Candidate {
         &self.entry
     }
 
+    /// How many predicates, functions and variables stand in the entry's atom.
+    pub fn weight(&self) -> u64
+        ensures { result ≡ pattern_weight self.now.atom }
+    {
+        self.weight
+    }
+
     /// The entry, to be added to a context.
     pub fn into_entry(self) -> Entry
         ensures { result ≡ self }

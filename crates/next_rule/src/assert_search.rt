@@ -63,7 +63,7 @@ impl<'a, V: View> Search<'a, V> {
         requires bounds { IsLawful self.now.bounds.now }
         ensures { IfOk result (λ better. TakesAsserts self.now.problem.now self.now.bounds.now (V.context self.now.view.now) (AssertPlace index place) best better) }
     {
-        let limits = limits_before(self.alloc, self.bounds, &best)?;
+        let limits = limits_before(self.bounds, &best);
         let mut cursor = Cursor::new(
             self.alloc,
             &clause.literals,
@@ -73,7 +73,7 @@ impl<'a, V: View> Search<'a, V> {
         );
         while cursor.advance()? {
             best = self.assert_at(clause, index, place, cursor.tuple(), best)?;
-            cursor.limit(limits_before(self.alloc, self.bounds, &best)?)?;
+            cursor.limit(limits_before(self.bounds, &best))?;
         }
         Ok(best)
     }
