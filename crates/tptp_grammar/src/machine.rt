@@ -78,7 +78,9 @@ fn add<'a>(texts: &mut IndexSet<&'a [u8]>, text: &'a [u8]) -> Result<(), AllocEr
 fn clear(texts: &mut IndexSet<&[u8]>)
     ensures { map (λ x. x.now) texts.new.keys ≡ [] }
 {
-    texts.clear();
+    if !texts.is_empty() {
+        texts.clear();
+    }
 }
 
 /// Whether the token opens a bracket.
