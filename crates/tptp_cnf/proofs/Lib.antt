@@ -4,6 +4,7 @@ pub mod Constants
 pub mod Drafted
 pub mod Fed
 pub mod Lawful
+pub mod Lookup
 pub mod Numbering
 pub mod Reached
 pub mod Sizes

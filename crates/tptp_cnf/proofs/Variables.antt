@@ -1,5 +1,5 @@
 -- The set of texts that the code keeps, as the list of variables.
-use Rattle.std.proofs.Common.{◌≡◌, ℕ, ◌+◌, Bool, true, false, cond, List, [], ◌∷◌, ◌++◌, map, Bor, refl, sym, ap, ◌∙◌}
+use Rattle.std.proofs.Common.{◌≡◌, ℕ, ◌+◌, Bool, true, false, cond, List, [], ◌∷◌, ◌++◌, map, length, Bor, arith, refl, sym, ap, ◌∙◌}
 use Rattle.std.specs.List.{list_any, position_or_len}
 use Rattle.std.specs.Str.{bytes_eq}
 use Rattle.std.specs.Prelude.{◌||◌, not}
@@ -46,3 +46,7 @@ place_if false text known e = pushed text known e
 pub placed : (ks new : List (Bor (List ℕ))) (k : Bor (List ℕ)) (n : ℕ) → n ≡ position_or_len (λ x. bytes_eq k.now x.now) ks → new ≡ cond (list_any (λ x. bytes_eq k.now x.now) ks) ks (ks ++ k ∷ []) → n ≡ place_of k.now (map (λ x. x.now) new)
 placed ks new k n p e =
     p ∙ place_text k.now ks ∙ place_if (list_any (bytes_eq k.now) (texts ks)) k.now (texts ks) refl ∙ ap (place_of k.now) (sym (added ks new k e))
+
+pub emptied : (ks : List (Bor (List ℕ))) → length ks ≡ 0 → map (λ x. x.now) ks ≡ []
+emptied [] e = refl
+emptied (k ∷ ks) e = absurd (omega (arith, e))

@@ -87,11 +87,10 @@ fn put(
     Ok(())
 }
 
-/// The literals of the stack, the topmost first.
-fn unstacked(alloc: Global, stack: Vec<Literal>) -> Result<Literals, AllocError>
-    ensures { IfOk result (λ literals. literals.items ≡ reverse stack.items) }
+/// Takes the literals off the stack. The topmost is the first.
+fn unstacked(alloc: Global, stack: &mut Vec<Literal>) -> Result<Literals, AllocError>
+    ensures { IfOk result (λ literals. literals.items ≡ reverse stack.old.items) }
 {
-    let mut stack = stack;
     let mut literals = Literals::new(alloc);
     literals.reserve(stack.len() as u64)?;
     'literals: while let Some(literal) = stack.pop() {
@@ -102,16 +101,21 @@ fn unstacked(alloc: Global, stack: Vec<Literal>) -> Result<Literals, AllocError>
     Ok(literals)
 }
 
-/// The literals that the nodes are.
-pub(crate) fn built(alloc: Global, nodes: &[Node]) -> Result<Literals, AllocError>
+/// The literals that the nodes are. The stacks are emptied first.
+pub(crate) fn built(
+    alloc: Global,
+    terms: &mut Vec<Term>,
+    literals: &mut Vec<Literal>,
+    nodes: &[Node],
+) -> Result<Literals, AllocError>
     ensures { IfOk result (λ literals. literals.items ≡ (built_of nodes.now).literals) }
 {
-    let mut terms = Vec::new(alloc);
-    let mut literals = Vec::new(alloc);
+    terms.clear();
+    literals.clear();
     let mut count = nodes.len();
     'nodes: while count > 0 {
         count -= 1;
-        put(alloc, nodes[count], &mut terms, &mut literals)?;
+        put(alloc, nodes[count], terms, literals)?;
     }
     unstacked(alloc, literals)
 }

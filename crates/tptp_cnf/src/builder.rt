@@ -9,18 +9,29 @@ ghost use Rattle.tptp_cnf.specs.Meaning.{same_truth, is_constant, with_constant,
 ghost use Rattle.tptp_cnf.specs.Rows as rows;
 
 use crate::build::built;
-use crate::item::{Item, Role};
-use crate::numbers::{function, label, numbered};
-use me_terms::{Clause, Clauses, Form, Label, Problem, Signature, Symbol, Text};
+use crate::item::{Item, Node, Role};
+use crate::numbers::{function, label, number_all};
+use crate::symbols::Symbols;
+use indexmap::IndexSet;
+use me_terms::{Clause, Clauses, Form, Label, Literal, Problem, Signature, Symbol, Term, Text};
 use std::alloc::{AllocError, Global};
 use std::mem;
 use tptp_grammar::Part;
 use tptp_tokens::{Token, TokenKind};
 
+/// The lists that a clause is made in. They stay, so that their room serves the next clause.
+#[derive(Drop)]
+struct Workspace<'a> {
+    variables: IndexSet<&'a [u8]>,
+    nodes: Vec<Node>,
+    terms: Vec<Term>,
+    literals: Vec<Literal>,
+}
+
 /// The clauses and symbols so far, and the formula that is being read.
 #[derive(Drop)]
 pub(crate) struct Builder<'a> {
-    signature: Signature,
+    signature: Symbols<'a>,
     clauses: Clauses,
     /// The number of formulas that have begun.
     number: u32,
@@ -30,6 +41,7 @@ pub(crate) struct Builder<'a> {
     items: Vec<Item<'a>>,
     /// The places of the names whose arguments are being read, the outermost first.
     open: Vec<usize>,
+    workspace: Workspace<'a>,
 }
 
 /// A label without text.
@@ -118,13 +130,19 @@ impl<'a> Builder<'a> {
         ensures { draft result ≡ rows.empty_draft }
     {
         Builder {
-            signature: Signature::new(alloc),
+            signature: Symbols::new(alloc),
             clauses: Clauses::new(alloc),
             number: 0,
             label: no_label(alloc),
             is_kept: true,
             items: Vec::new(alloc),
             open: Vec::new(alloc),
+            workspace: Workspace {
+                variables: IndexSet::new(alloc),
+                nodes: Vec::new(alloc),
+                terms: Vec::new(alloc),
+                literals: Vec::new(alloc),
+            },
         }
     }
 
@@ -203,8 +221,14 @@ impl<'a> Builder<'a> {
     fn add_clause(&mut self, alloc: Global) -> Result<(), AllocError>
         ensures { OnOk result (draft self.new ≡ rows.with_clause (draft self.old)) }
     {
-        let nodes = numbered(alloc, &mut self.signature, &self.items)?;
-        let literals = built(alloc, &nodes)?;
+        let Workspace {
+            variables,
+            nodes,
+            terms,
+            literals,
+        } = &mut self.workspace;
+        number_all(alloc, &mut self.signature, variables, nodes, &self.items)?;
+        let literals = built(alloc, terms, literals, nodes)?;
         let label = mem::replace(&mut self.label, no_label(alloc));
         let clause = Clause {
             number: self.number,
@@ -260,14 +284,16 @@ impl<'a> Builder<'a> {
         ensures { IfOk result (λ problem. problem ≡ rows.finished (draft self.entry)) }
     {
         let Builder {
-            mut signature,
+            signature,
             clauses,
             number: _,
             label: _,
             is_kept: _,
             items: _,
             open: _,
+            workspace: _,
         } = self;
+        let mut signature = signature.into_signature();
         let c0 = constant(alloc, &mut signature)?;
         Ok(Problem {
             clauses,

@@ -11,6 +11,7 @@ mod item;
 mod laws;
 mod numbers;
 mod read;
+mod symbols;
 
 pub use error::CnfError;
 pub use laws::{one_cause, one_problem, refused_is_no_file};

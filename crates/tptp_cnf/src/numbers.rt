@@ -2,7 +2,7 @@
 //!
 //! Functions and predicates are numbered over the whole file, each symbol by its label and its number of
 //! arguments, and variables over one formula.
-ghost use Rattle.std.specs.Prelude.{◌≡◌, [], ◌∷◌, map, OnOk, IfOk};
+ghost use Rattle.std.specs.Prelude.{◌≡◌, [], ◌∷◌, map, OnOk, OnErr, IfOk};
 ghost use Rattle.tptp_grammar.specs.Views.{terminal_of};
 ghost use Rattle.tptp_grammar.specs.Limits.{with_variables};
 ghost use Rattle.me_terms.specs.Signatures.{with_symbol, number_of};
@@ -11,6 +11,7 @@ ghost use Rattle.tptp_cnf.specs.Rows.{label_as, symbol_as, text_as, number_in, w
 ghost use Rattle.tptp_cnf.specs.Views.{item_value, names};
 
 use crate::item::{Item, Node, Role};
+use crate::symbols::Symbols;
 use indexmap::IndexSet;
 use me_terms::{Form, Label, Signature, Symbol, Text};
 use std::alloc::{AllocError, Global};
@@ -38,7 +39,7 @@ pub(crate) fn label(alloc: Global, token: &Token<'_>) -> Result<Label, AllocErro
 }
 
 /// The symbol of the name.
-fn symbol(alloc: Global, item: &Item<'_>) -> Result<Symbol, AllocError>
+pub(crate) fn symbol(alloc: Global, item: &Item<'_>) -> Result<Symbol, AllocError>
     ensures { IfOk result (λ symbol. symbol ≡ symbol_as (item_value item.now)) }
 {
     Ok(Symbol {
@@ -51,6 +52,7 @@ fn symbol(alloc: Global, item: &Item<'_>) -> Result<Symbol, AllocError>
 pub(crate) fn function(signature: &mut Signature, symbol: Symbol) -> Result<u32, AllocError>
     ensures number { IfOk result (λ n. n ≡ number_of symbol signature.new.functions) }
     ensures added { OnOk result (signature.new ≡ record signature.old { functions = with_symbol signature.old.functions symbol }) }
+    ensures err { OnErr result (signature.new ≡ signature.old) }
 {
     if signature.fun_count() == u32::MAX {
         return Err(AllocError);
@@ -59,9 +61,10 @@ pub(crate) fn function(signature: &mut Signature, symbol: Symbol) -> Result<u32,
 }
 
 /// The number of the predicate, which is added where it is new.
-fn predicate(signature: &mut Signature, symbol: Symbol) -> Result<u32, AllocError>
+pub(crate) fn predicate(signature: &mut Signature, symbol: Symbol) -> Result<u32, AllocError>
     ensures number { IfOk result (λ n. n ≡ number_of symbol signature.new.predicates) }
     ensures added { OnOk result (signature.new ≡ record signature.old { predicates = with_symbol signature.old.predicates symbol }) }
+    ensures err { OnErr result (signature.new ≡ signature.old) }
 {
     if signature.pred_count() == u32::MAX {
         return Err(AllocError);
@@ -90,41 +93,54 @@ fn variable<'a>(variables: &mut IndexSet<&'a [u8]>, text: &'a [u8]) -> Result<u3
     }
 }
 
+/// Takes all variables out.
+#[tactic(auto, using(crate::proofs::Variables::emptied))]
+fn clear(variables: &mut IndexSet<&[u8]>)
+    ensures { map (λ x. x.now) variables.new.keys ≡ [] }
+{
+    if !variables.is_empty() {
+        variables.clear();
+    }
+}
+
 /// The number of the name, which is added where it is new.
 fn number<'a>(
     alloc: Global,
-    signature: &mut Signature,
+    symbols: &mut Symbols<'a>,
     variables: &mut IndexSet<&'a [u8]>,
     item: &Item<'a>,
 ) -> Result<u32, AllocError>
-    ensures number { IfOk result (λ n. n ≡ number_in (names signature.new (map (λ x. x.now) variables.new.keys)) (item_value item.now)) }
-    ensures added { OnOk result (names signature.new (map (λ x. x.now) variables.new.keys) ≡ with_item (names signature.old (map (λ x. x.now) variables.old.keys)) (item_value item.now)) }
+    ensures number { IfOk result (λ n. n ≡ number_in (names symbols.new (map (λ x. x.now) variables.new.keys)) (item_value item.now)) }
+    ensures added { OnOk result (names symbols.new (map (λ x. x.now) variables.new.keys) ≡ with_item (names symbols.old (map (λ x. x.now) variables.old.keys)) (item_value item.now)) }
 {
     match item.role {
-        Role::Function => function(signature, symbol(alloc, item)?),
-        Role::Positive | Role::Negative => predicate(signature, symbol(alloc, item)?),
+        Role::Function => symbols.function(alloc, item),
+        Role::Positive | Role::Negative => symbols.predicate(alloc, item),
         Role::Variable => variable(variables, variable_text(&item.name)),
     }
 }
 
-/// The names of a formula by their numbers. New symbols are added to the signature.
-pub(crate) fn numbered<'a>(
+/// Puts the names of a formula by their numbers in the place of the nodes, and its variables in the place
+/// of those before. New symbols are added.
+pub(crate) fn number_all<'a>(
     alloc: Global,
-    signature: &mut Signature,
+    symbols: &mut Symbols<'a>,
+    variables: &mut IndexSet<&'a [u8]>,
+    nodes: &mut Vec<Node>,
     items: &[Item<'a>],
-) -> Result<Vec<Node>, AllocError>
-    ensures nodes { IfOk result (λ nodes. nodes.items ≡ numbers_of (names_of signature.old) (map item_value items.now)) }
-    ensures added { OnOk result (signature.new ≡ signature_of (names_after (names_of signature.old) (map item_value items.now))) }
+) -> Result<(), AllocError>
+    ensures nodes { OnOk result (nodes.new.items ≡ numbers_of (names_of symbols.old) (map item_value items.now)) }
+    ensures added { OnOk result (symbols.new ≡ signature_of (names_after (names_of symbols.old) (map item_value items.now))) }
 {
-    let mut variables = IndexSet::new(alloc);
-    let mut nodes = Vec::new(alloc);
+    clear(variables);
+    nodes.clear();
     'items: for item in items {
-        let number = number(alloc, signature, &mut variables, item)?;
+        let number = number(alloc, symbols, variables, item)?;
         nodes.push(Node {
             role: item.role,
             number,
             arity: item.arity,
         })?;
     }
-    Ok(nodes)
+    Ok(())
 }

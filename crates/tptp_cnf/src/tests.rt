@@ -167,6 +167,45 @@ fn notes_and_bad_tokens(rt: HostRuntime) {
     assert!(rt; other.is_none(), "{other:?}");
 }
 
+#[test]
+fn bad_bytes(rt: HostRuntime) {
+    let other = first_other(
+        rt.alloc(),
+        &[
+            (b"\xff", "syntax", 0),
+            (b"/*", "syntax", 0),
+            (b"cnf(a,axiom,'').", "syntax", 12),
+        ],
+    );
+    assert!(rt; other.is_none(), "{other:?}");
+}
+
+#[test]
+fn file_prefixes(rt: HostRuntime) {
+    let other = first_other(
+        rt.alloc(),
+        &[
+            (b"", "read", 0),
+            (b"c", "syntax", 0),
+            (b"cn", "syntax", 0),
+            (b"cnf", "syntax", 3),
+            (b"cnf(", "syntax", 4),
+            (b"cnf(a", "syntax", 5),
+            (b"cnf(a,", "syntax", 6),
+            (b"cnf(a,a", "role", 6),
+            (b"cnf(a,ax", "role", 6),
+            (b"cnf(a,axi", "role", 6),
+            (b"cnf(a,axio", "role", 6),
+            (b"cnf(a,axiom", "syntax", 11),
+            (b"cnf(a,axiom,", "syntax", 12),
+            (b"cnf(a,axiom,p", "syntax", 13),
+            (b"cnf(a,axiom,p)", "syntax", 14),
+            (b"cnf(a,axiom,p).", "read", 0),
+        ],
+    );
+    assert!(rt; other.is_none(), "{other:?}");
+}
+
 /// What is said of a text with a part that stands in it so often.
 fn verdict_of_repeated(
     alloc: Global,
@@ -254,6 +293,27 @@ fn a_distinct_object_is_no_word(rt: HostRuntime) -> Result<(), Fail> {
         (Some(0), Some(1))
     );
     assert_eq!(rt; constant_at(&problem, 2), Some(1));
+    Ok(())
+}
+
+#[test]
+fn a_name_is_a_symbol_for_each_number_of_arguments(rt: HostRuntime) -> Result<(), Fail> {
+    let problem = read_problem(rt.alloc(), b"cnf(1,plain,p(f,f(f),f,'f',f(f),f)).")?;
+    assert_eq!(rt;
+        (
+            problem.signature.fun_count(),
+            problem.signature.pred_count()
+        ),
+        (2, 1)
+    );
+    assert_eq!(rt;
+        (constant_at(&problem, 0), constant_at(&problem, 2)),
+        (Some(0), Some(0))
+    );
+    assert_eq!(rt;
+        (constant_at(&problem, 3), constant_at(&problem, 5)),
+        (Some(0), Some(0))
+    );
     Ok(())
 }
 

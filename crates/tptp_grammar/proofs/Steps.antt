@@ -30,17 +30,16 @@ counted_is : (b : Bool) (part : Part) (t : Terminal) (tally : Tally) → counted
 counted_is true part t tally = refl
 counted_is false part t tally = refl
 
-pub stepped : (r final : Reading) (t : Terminal) (part : Part) (brackets : ℕ) (u : State) (before : Tally) (opening : Bool) → part ≡ part_at r.state t → brackets ≡ open_brackets r.state → step r.state t ≡ Some u
+pub stepped : (r final : Reading) (t : Terminal) (part : Part) (u : State) (before : Tally) (too_deep : Bool) → part ≡ part_at r.state t → step r.state t ≡ Some u
     → first_of (begins_formula part && nat_le 1048576 r.tally.formulas) (begins_literal part && nat_le 4096 r.tally.literals) (begins_argument_behind 64 part) false false ≡ None
-    → before ≡ noted part t r.tally → opening ≡ opens t
-    → first_of false false false (nat_le 1025 (length before.variables)) (opening && nat_le 250 brackets) ≡ None
+    → before ≡ noted part t r.tally → too_deep ≡ (opens t && nat_le 250 (open_brackets r.state))
+    → first_of false false false (nat_le 1025 (length before.variables)) too_deep ≡ None
     → final.state ≡ u → final.tally ≡ counted_part part before
     → verdict r t ≡ GoesOn final
-stepped r final t part brackets u before opening p b s f n o g w k =
+stepped r final t part u before too_deep p s f n d g w k =
     let g' : first_of false false false (nat_le 1025 (length (with_variables r.tally.variables (variable_as part t)))) (opens t && nat_le 250 (open_brackets r.state)) ≡ None =
     ap (λ (x : Tally). first_of false false false (nat_le 1025 (length x.variables)) (opens t && nat_le 250 (open_brackets r.state))) (sym n)
-    ∙ ap (λ (x : Bool). first_of false false false (nat_le 1025 (length before.variables)) (x && nat_le 250 (open_brackets r.state))) (sym o)
-    ∙ ap (λ (x : ℕ). first_of false false false (nat_le 1025 (length before.variables)) (opening && nat_le 250 x)) (sym b) ∙ g in
+    ∙ ap (λ (x : Bool). first_of false false false (nat_le 1025 (length before.variables)) x) (sym d) ∙ g in
     let all : first_passed part (open_brackets r.state) r.tally t ≡ None = none_of _ _ _ _ _ f g' in
     let here : first_passed_at r t ≡ None = ap (λ (x : Part). first_passed x (open_brackets r.state) r.tally t) (sym p) ∙ all in
     let tally : counted (part_at r.state t) t r.tally ≡ final.tally =

@@ -78,7 +78,9 @@ fn add<'a>(texts: &mut IndexSet<&'a [u8]>, text: &'a [u8]) -> Result<(), AllocEr
 fn clear(texts: &mut IndexSet<&[u8]>)
     ensures { map (λ x. x.now) texts.new.keys ≡ [] }
 {
-    texts.clear();
+    if !texts.is_empty() {
+        texts.clear();
+    }
 }
 
 /// Whether the token opens a bracket.
@@ -140,14 +142,21 @@ impl<'a> Machine<'a> {
         }
     }
 
-    /// The limit of variables, where they are too many, or that of brackets, where one more opens when
-    /// so many are open.
-    fn limit_of_all(&self, opening: bool, brackets: u64) -> Option<Which>
-        ensures { result ≡ readings.first_of false false false (nat_le 1025 (length (tally_of self.now).variables)) (opening && nat_le 250 brackets) }
+    /// Whether the token opens a bracket where as many are open as may be.
+    #[tactic(auto, using(crate::proofs::Steps::opening_is))]
+    fn is_too_deep(&self, token: &Token<'_>) -> bool
+        ensures { result ≡ (limits.opens (terminal_of token.now) && nat_le 250 (spec.open_brackets (state_of self.now.place))) }
+    {
+        opens(token.kind) && self.place.open_brackets() >= MAX_BRACKETS
+    }
+
+    /// The limit of variables, where they are too many, or that of brackets, where the token was too deep.
+    fn limit_of_all(&self, is_too_deep: bool) -> Option<Which>
+        ensures { result ≡ readings.first_of false false false (nat_le 1025 (length (tally_of self.now).variables)) is_too_deep }
     {
         if self.variables.len() > MAX_VARIABLES {
             Some(Which::Variables)
-        } else if opening && brackets >= MAX_BRACKETS {
+        } else if is_too_deep {
             Some(Which::Nesting)
         } else {
             None
@@ -178,7 +187,7 @@ impl<'a> Machine<'a> {
         ensures refused { IfErr result (Tells (readings.verdict (reading self.old) (terminal_of token.now))) }
     {
         let part = self.place.part(token);
-        let brackets = self.place.open_brackets();
+        let is_too_deep = self.is_too_deep(token);
         if !self.place.advance(token)? {
             return Err(StepError::Refused(refusal(&self.place, token)));
         }
@@ -186,7 +195,7 @@ impl<'a> Machine<'a> {
             return Err(StepError::Refused(Refusal::Limit(which)));
         }
         self.note_variable(part, token)?;
-        if let Some(which) = self.limit_of_all(opens(token.kind), brackets) {
+        if let Some(which) = self.limit_of_all(is_too_deep) {
             return Err(StepError::Refused(Refusal::Limit(which)));
         }
         self.count(part);

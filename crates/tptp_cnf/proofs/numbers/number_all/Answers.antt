@@ -3,7 +3,7 @@ use Rattle.tptp_tokens.specs.declared.token.TokenKind.TheVariants.{LowerWord}
 use Rattle.tptp_cnf.specs.declared.item.Item.{Item}
 use Rattle.tptp_cnf.specs.declared.item.Role.TheVariants.{Positive}
 use Rattle.tptp_cnf.proofs.Steps.{one_node, one_name}
-use Rattle.tptp_cnf.proofs.numbers.numbered.Goals as goal
+use Rattle.tptp_cnf.proofs.numbers.number_all.Goals as goal
 
 pub items-preserved : goal.items-preserved
 items-preserved c =
