@@ -21,7 +21,7 @@ loop-cursor-preserved g c =
     let limits = assert_limits bounds c.loop-cursor.best in
     asserts_so_far a.self.now.problem.now bounds context a.index a.place a.clause.now c.loop-cursor.cursor c.advance.new.self c.limit.new.self c.tuple.result.now.items a.best c.loop-cursor.best c.in_ok-best.best c.requires.clause_at c.loop-cursor.invariant
     (advances context a.clause.now.literals (Some a.place) limits c.loop-cursor.cursor c.advance.new.self c.loop-cursor.invariant.over (c.in_ok-advance.ensures.next c.if-branch.true)) c.tuple.ensures c.in_ok-best.ensures
-    (limited_to context a.clause.now.literals (Some a.place) limits c.advance.new.self c.limit.new.self _ (assert_limits bounds c.in_ok-best.best) c.in_ok-limit.ensures.limited c.in_ok-limits_before.ensures)
+    (limited_to context a.clause.now.literals (Some a.place) limits c.advance.new.self c.limit.new.self _ (assert_limits bounds c.in_ok-best.best) c.in_ok-limit.ensures.limited c.limits_before.ensures)
 
 pub returns : goal.returns
 returns g c =
