@@ -11,6 +11,7 @@ pub mod PortionEnds
 pub mod Pushes
 pub mod Reasons
 pub mod Spines
+pub mod StaysApart
 pub mod Steps
 pub mod Subtrees
 pub mod Survivors

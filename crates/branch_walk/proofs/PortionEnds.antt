@@ -15,7 +15,7 @@ use Rattle.branch_core.specs.StandsFor.{Account, record_of, StandsFor}
 use Rattle.branch_core.specs.Whole.{IsIn, IsLicensed, AreWhole, AreWholeRecords}
 use Rattle.std.specs.List.{All}
 use Rattle.branch_walk.specs.Jobs.{turns_taken, MayBeGiven}
-use Rattle.branch_walk.specs.Portions.{gift_of, gifts, MayCut, IsPortion}
+use Rattle.branch_walk.specs.Portions.{gift_of, gifts, MayCut, IsJoinedThrough, IsPortion}
 use Rattle.branch_walk.specs.Walks.{Heard, IsWalked}
 use Rattle.branch_walk.specs.declared.state.State.{State}
 use Rattle.branch_walk.specs.declared.tally.Tally.{Tally}
@@ -26,8 +26,8 @@ use Rattle.branch_walk.proofs.TreesAt.{tree_at}
 use Rattle.branch_walk.proofs.TreesBelow.{same_tree}
 
 module _ (problem : ProblemValue) (bounds : Bounds) (share : ℕ) (path : Turns) (context : Context) where
-  pub portion : (positive : Bool) → IsGrown problem bounds positive context → turns_taken context ≡ path → (state : State) (heard now : Heard) (old new : Tally) → (w : IsWalked problem bounds share context state heard now old new) → (pieces : List Piece) → Joined w.more pieces → (record' : RecordValue) → record' ≡ record_of bounds.list (record { path = path; pieces = pieces }) → (search : SearchTree) → IsSearchTree problem bounds (start positive) search → IsPortion bounds.list share search path w.told w.gave w.sent record'
-  portion positive grown turns state heard now old new w pieces joined record' is search tree =
+  pub portion : (positive : Bool) → IsGrown problem bounds positive context → turns_taken context ≡ path → (state : State) (heard now : Heard) (old new : Tally) → (w : IsWalked problem bounds share context state heard now old new) → (pieces : List Piece) → Joined w.more pieces → IsJoinedThrough pieces → (record' : RecordValue) → record' ≡ record_of bounds.list (record { path = path; pieces = pieces }) → (search : SearchTree) → IsSearchTree problem bounds (start positive) search → IsPortion bounds.list share search path w.told w.gave w.sent record'
+  portion positive grown turns state heard now old new w pieces joined through record' is search tree =
       let here = tree_at grown search tree in
       let own = same_tree problem bounds context here.own w.own here.tree w.tree in
       let L : List ℕ → Type 0 = λ s. length s ≤ 1 in
@@ -45,6 +45,7 @@ module _ (problem : ProblemValue) (bounds : Bounds) (share : ℕ) (path : Turns)
           replaced = subst R turns (replaced_more may w.replaced);
           joined = joined;
         };
+        joined_through = through;
         gifts_are = w.gifts_are ∙ ap (λ (g : List Turns). reverse g) (gifts_joined joined);
         lawful = subst (λ (t : Turns). All (MayBeGiven share t) w.gave) turns w.lawful;
         posted_are = w.sent_is ∙ sats_joined joined one;

@@ -2,7 +2,7 @@
 use Rattle.std.proofs.Common.{◌≡◌, ℕ, ◌+◌, ◌≤◌, true, Option, Some, None, arith}
 use Rattle.branch_core.specs.declared.part.Part.{Part}
 use Rattle.branch_core.specs.declared.part.Part.TheVariants as part
-use Rattle.branch_walk.specs.Tallies.{AddsAtMost, AllowsCut, TakesLeaf, is_sat}
+use Rattle.branch_walk.specs.Tallies.{AddsAtMost, AllowsCut, AllowsLoss, TakesLeaf, is_sat}
 use Rattle.branch_walk.specs.declared.tally.Tally.{Tally}
 
 pub adds_then : {m n : ℕ} {a b c : Tally} → AddsAtMost m a b → AddsAtMost n b c → AddsAtMost (m + n) a c
@@ -31,6 +31,16 @@ open_takes key (Some (part.Sat context)) h = tt
 open_takes key (Some (part.Gift path)) h = absurd h
 open_takes key (Some (part.Cut other)) h = absurd h
 open_takes key (Some part.NoMemory) h = absurd h
+
+-- it takes a loss too
+pub open_loses : (last : Option Part) → TakesLeaf last → AllowsLoss last
+open_loses None h = tt
+open_loses (Some (part.Closed l)) h = tt
+open_loses (Some (part.Bounded b)) h = tt
+open_loses (Some (part.Sat context)) h = absurd h
+open_loses (Some (part.Gift path)) h = absurd h
+open_loses (Some (part.Cut other)) h = absurd h
+open_loses (Some part.NoMemory) h = absurd h
 
 pub sated_takes : (key : ℕ) (last : Option Part) → is_sat last ≡ true → AllowsCut key last
 sated_takes key None h = tt

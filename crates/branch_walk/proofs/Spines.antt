@@ -1,5 +1,5 @@
 -- The walk of a node whose left branch was walked: with what became of the right one.
-use Rattle.std.proofs.Common.{◌≡◌, ℕ, ◌≤◌, Bool, true, false, List, [], ◌∷◌, ◌++◌, length, reverse, length-append, append-nil, append_assoc, refl, sym, subst, ap, ◌∙◌, arith}
+use Rattle.std.proofs.Common.{◌≡◌, ℕ, suc, ◌≤◌, Bool, true, false, List, [], ◌∷◌, ◌++◌, length, reverse, length-append, append-nil, append_assoc, refl, sym, subst, ap, ◌∙◌, arith}
 use Rattle.std.specs.List.{All}
 use Rattle.std.specs.Prelude.{if◌then◌else◌}
 use Rattle.std.proofs.lemmas.List.Elements.{All-append, All-cons, All-head, All-nil, All-weaker}
@@ -13,7 +13,7 @@ use Rattle.branch_core.specs.Hooks.{SameGifts}
 use Rattle.branch_core.specs.Pieces.{Piece, Gift, Cut, NoMemory}
 use Rattle.branch_core.specs.Replaced.{Replaced, own_node, given, cut, no_memory}
 use Rattle.branch_core.specs.SearchTree.{SearchTree, Node, IsSearchTree, splits}
-use Rattle.branch_walk.specs.Jobs.{turns_taken, MayBeGiven}
+use Rattle.branch_walk.specs.Jobs.{turns_taken, lefts, MayBeGiven}
 use Rattle.branch_walk.specs.Portions.{gifts, sat_keys, MayCut}
 use Rattle.branch_walk.specs.Tallies.{IsTally, IsOpen}
 use Rattle.branch_walk.specs.Turning.{EndsLeft, beside}
@@ -23,7 +23,7 @@ use Rattle.branch_walk.specs.declared.state.State.TheVariants.{Going, Cutting, L
 use Rattle.branch_walk.specs.declared.tally.Tally.{Tally}
 use Rattle.branch_walk.proofs.Descents.{goes_more}
 use Rattle.branch_walk.proofs.Ends.{longer}
-use Rattle.branch_walk.proofs.Pushes.{open_takes}
+use Rattle.branch_walk.proofs.Pushes.{open_loses, open_takes}
 use Rattle.branch_walk.proofs.LeftRight.{below_left, children_apart}
 use Rattle.branch_walk.proofs.Places.{replaced_more, may_left, may_right}
 use Rattle.branch_walk.proofs.Subtrees.{hears_more, hears_none, gifts_append, sats_append, grown_some}
@@ -35,16 +35,20 @@ reverse_gift : (away : Bool) (right : Turns) → reverse (gift_if away right) �
 reverse_gift true right = refl
 reverse_gift false right = refl
 
--- what may be given below a child may be given below its parent
-pub given_deeper : (share : ℕ) (path turns gift : Turns) (turn : Bool) → turns ≡ path ++ turn ∷ [] → MayBeGiven share turns gift → MayBeGiven share path gift
-given_deeper share path turns gift turn is may = record {
-  below = (turn, may.below.0 ∷ may.below.1, may.below.2 ∙ (ap (λ (t : Turns). t ++ may.below.0 ∷ may.below.1) is ∙ append_assoc path (turn ∷ []) (may.below.0 ∷ may.below.1)));
-  right = may.right;
-  few = may.few;
-}
+-- what may be given below a left child may be given below its parent
+pub given_deeper : (share : ℕ) (path turns gift : Turns) → turns ≡ path ++ false ∷ [] → MayBeGiven share turns gift → MayBeGiven share path gift
+given_deeper share path turns gift is may =
+    let n = may.beside_left.0 in
+    let end : Turns = lefts n ++ true ∷ [] in
+    record {
+      below = (false, may.below.0 ∷ may.below.1, may.below.2 ∙ (ap (λ (t : Turns). t ++ may.below.0 ∷ may.below.1) is ∙ append_assoc path (false ∷ []) (may.below.0 ∷ may.below.1)));
+      right = may.right;
+      few = may.few;
+      beside_left = (suc n, may.beside_left.1 ∙ (ap (λ (t : Turns). t ++ end) is ∙ append_assoc path (false ∷ []) end));
+    }
 
 pub right_given : (share : ℕ) (path right : Turns) → right ≡ path ++ true ∷ [] → length right ≤ share → MayBeGiven share path right
-right_given share path right is few = record { below = (true, [], is); right = (path, is); few = few }
+right_given share path right is few = record { below = (true, [], is); right = (path, is); few = few; beside_left = (0, is) }
 
 gift_lawful : (share : ℕ) (path right : Turns) (away : Bool) → right ≡ path ++ true ∷ [] → length right ≤ share → All (MayBeGiven share path) (gift_if away right)
 gift_lawful share path right true is few = All-cons (MayBeGiven share path) right [] (right_given share path right is few) (All-nil (MayBeGiven share path))
@@ -114,7 +118,7 @@ module _ (problem : ProblemValue) (bounds : Bounds) (share : ℕ) (away : Bool) 
         hears = subst H no_more (hears_more hl.went (hears_more w.hears hears));
         replaced = own_node left_replaced replaced;
         gifts_are = sym reversed;
-        lawful = All-append (MayBeGiven share here) gift w.gave (gift_lawful share here right away hl.right_is hl.few) (All-weaker (MayBeGiven share (turns_taken hl.left)) (MayBeGiven share here) (λ g may. given_deeper share here (turns_taken hl.left) g false left_turns may) w.gave w.lawful);
+        lawful = All-append (MayBeGiven share here) gift w.gave (gift_lawful share here right away hl.right_is hl.few) (All-weaker (MayBeGiven share (turns_taken hl.left)) (MayBeGiven share here) (λ g may. given_deeper share here (turns_taken hl.left) g left_turns may) w.gave w.lawful);
         sent_is = sym (sats_append w.more more ∙ (λ i. sym w.sent_is i ++ sent_is i));
         one_sat = one;
         goes_on = on;
@@ -197,7 +201,7 @@ same_gifts f g path work = (λ h. (g path work).0 ((f path work).0 h), λ h. (f 
 pub ready_open : (state : State) (tally : Tally) → IsOpen tally → IsReady state tally
 ready_open Going tally h = h
 ready_open (Cutting cut_key) tally h = open_takes cut_key tally.last h
-ready_open Lost tally h = tt
+ready_open Lost tally h = open_loses tally.last h
 
 module _ (problem : ProblemValue) (bounds : Bounds) (share : ℕ) (away : Bool) (right : Turns) (base : ℕ) (state : State) (stands_at node : Context) (start mid : Heard) (first was : Tally) (hl : HasWalkedLeft problem bounds share away right base state stands_at node start mid first was) where
   pub left_ends : EndsLeft hl.left

@@ -20,7 +20,8 @@ use Rattle.branch_core.proofs.Assembly.{map_append}
 use Rattle.instance_lists.proofs.FirstOccurrences.{first-again}
 use Rattle.std.specs.Prelude.{Result, Ok, Err, IsOk, OnOk}
 use Rattle.branch_walk.specs.declared.tally.Tally.{Tally}
-use Rattle.branch_walk.specs.Tallies.{IsTally, IsLast, MayTakeMore, TakesLeaf, AllowsCut, IsSated, is_bounded, is_sat, is_sat_or_cut, cuts, losses}
+use Rattle.branch_walk.specs.Tallies.{IsTally, IsLast, MayTakeMore, TakesLeaf, AllowsCut, IsSated, AllStandApart, AreClosedOff, EndsApart, is_bounded, is_sat, is_sat_or_cut, cuts, losses}
+use Rattle.branch_walk.proofs.StaysApart.{cut_apart, gift_closes_off, last_apart, none_apart}
 use Rattle.branch_walk.proofs.JoinedRuns.{joined_last, joined_more, joined_pair, cuts_joined, sat_takes_cuts, losses_joined, sat_takes_losses}
 
 -- ---- the piece of a part
@@ -65,8 +66,8 @@ pub record Takes (n : ℕ) (tail more : List Piece) (new : Option Part) : Type 0
 one_more : (n : ℕ) (more one : Piece) (p : Part) → part_value p ≡ part_of n more → MayTakeMore more → Takes n [] (more ∷ []) (Some p)
 one_more n more one p e may = record { new_tail = more ∷ []; is_last = (more, refl, e, may); joins = as_they_are }
 
-pub grows : (n : ℕ) (old new : Tally) (more : List Piece) → new.parts ≡ old.parts → ((tail : List Piece) → IsLast n old.last tail → Takes n tail more new.last) → (leaves : List Piece) → IsTally n old leaves → IsTally n new (leaves ++ more)
-grows n old new more same f leaves h =
+pub grows : (n : ℕ) (old new : Tally) (more : List Piece) → new.parts ≡ old.parts → ((tail : List Piece) → IsLast n old.last tail → Takes n tail more new.last) → (EndsApart (map part_value old.parts.items) old.last → EndsApart (map part_value old.parts.items) new.last) → (leaves : List Piece) → IsTally n old leaves → IsTally n new (leaves ++ more)
+grows n old new more same f fits leaves h =
     let t = f h.tail h.last_is in
     record {
       earlier = h.earlier;
@@ -74,6 +75,7 @@ grows n old new more same f leaves h =
       parts_are = ap (λ (s : SequenceValue Part). map part_value s.items) same ∙ h.parts_are;
       last_is = t.is_last;
       joined = joined_last h.earlier h.tail more t.new_tail h.joined t.joins;
+      apart = subst (λ (s : SequenceValue Part). EndsApart (map part_value s.items) new.last) (sym same) (fits h.apart);
     }
 
 -- a first piece takes in the next one
@@ -145,10 +147,18 @@ more_closed n l new list f tail h =
     pair n tail (Closed at.0) (Closed list) (Closed (joined at.0 list)) (part.Closed new) at.1 closed_closed (ap value.Closed (f at.0 at.2 at.3)) (first-again (at.0 ++ list))
 
 -- ---- cuts
-pub first_cuts : (n : ℕ) (last : Option Part) (key : ℕ) (turns : Turns) (later : List Turns) → last ≡ None → (tail : List Piece) → IsLast n last tail → Takes n tail (cuts key (turns ∷ later)) (Some (part.Cut key))
-first_cuts n last key turns later none tail h =
-    let e : tail ≡ [] = subst (λ (z : Option Part). IsLast n z tail) none h in
-    subst (λ (z : List Piece). Takes n z (cuts key (turns ∷ later)) (Some (part.Cut key))) (sym e) (record { new_tail = Cut turns key ∷ []; is_last = (Cut turns key, refl, refl, tt); joins = cuts_joined key turns later })
+pub first_cuts : (n : ℕ) (new : Tally) (key : ℕ) (turns : Turns) (later : List Turns) → new.last ≡ Some (part.Cut key) → (leaves pieces : List Piece) → Joined leaves pieces → map part_value new.parts.items ≡ map (part_of n) pieces → AllStandApart (map part_value new.parts.items ++ value.Cut key ∷ []) → IsTally n new (leaves ++ cuts key (turns ∷ later))
+first_cuts n new key turns later is leaves pieces all parts apart =
+    let tail : List Piece = Cut turns key ∷ [] in
+    let last : IsLast n (Some (part.Cut key)) tail = (Cut turns key, refl, refl, tt) in
+    record {
+      earlier = pieces;
+      tail = tail;
+      parts_are = parts;
+      last_is = subst (λ (z : Option Part). IsLast n z tail) (sym is) last;
+      joined = joined_last pieces [] (cuts key (turns ∷ later)) tail (subst (λ (z : List Piece). Joined leaves z) (sym (append-nil pieces)) all) (cuts_joined key turns later);
+      apart = subst (λ (z : Option Part). EndsApart (map part_value new.parts.items) z) (sym is) apart;
+    }
 
 cut_takes_cuts : (n : ℕ) (key : ℕ) (nodes : List Turns) (tail : List Piece) → IsLast n (Some (part.Cut key)) tail → Takes n tail (cuts key nodes) (Some (part.Cut key))
 cut_takes_cuts n key nodes tail h =
@@ -191,7 +201,7 @@ sat_cuts n key (Some part.NoMemory) nodes is tail h = cc is
 
 -- a tally whose last part is an exhausted leaf's takes in all Cuts that follow
 pub sated_takes_cuts : (n : ℕ) (tally : Tally) (key : ℕ) (nodes : List Turns) → IsSated tally → (leaves : List Piece) → IsTally n tally leaves → IsTally n tally (leaves ++ cuts key nodes)
-sated_takes_cuts n tally key nodes sated leaves h = grows n tally tally (cuts key nodes) refl (sat_cuts n key tally.last nodes sated) leaves h
+sated_takes_cuts n tally key nodes sated leaves h = grows n tally tally (cuts key nodes) refl (sat_cuts n key tally.last nodes sated) (λ apart. apart) leaves h
 
 -- ---- losses
 pub sat_losses : (n : ℕ) (last : Option Part) (nodes : List Turns) → is_sat last ≡ true → (tail : List Piece) → IsLast n last tail → Takes n tail (losses nodes) last
@@ -240,42 +250,56 @@ loses n (Some p) turns later other_than tail h =
     }
 
 -- ---- a last part that is put behind the others
-pub settled : (n : ℕ) (old new : Tally) (p : Part) → old.last ≡ Some p → new.parts.items ≡ old.parts.items ++ p ∷ [] → new.last ≡ None → (leaves : List Piece) → IsTally n old leaves → IsTally n new leaves
-settled n old new p is pushed none leaves h =
-    let at : IsLast n (Some p) h.tail = subst (λ (z : Option Part). IsLast n z h.tail) is h.last_is in
-    let parts : map part_value new.parts.items ≡ map (part_of n) (h.earlier ++ at.0 ∷ []) =
-    ap (map part_value) pushed ∙ (map_append part_value old.parts.items (p ∷ []) ∙ ((λ i. h.parts_are i ++ at.2 i ∷ []) ∙ sym (map_append (part_of n) h.earlier (at.0 ∷ [])))) in
-    let same : h.earlier ++ h.tail ≡ (h.earlier ++ at.0 ∷ []) ++ [] = ap (λ (z : List Piece). h.earlier ++ z) at.1 ∙ sym (append-nil (h.earlier ++ at.0 ∷ [])) in
-    record {
-      earlier = h.earlier ++ at.0 ∷ [];
-      tail = [];
-      parts_are = parts;
-      last_is = subst (λ (z : Option Part). IsLast n z []) (sym none) refl;
-      joined = subst (λ (z : List Piece). Joined leaves z) same h.joined;
-    }
+-- the parts of all pieces, no two neighbours of which can be joined
+abbrev pub IsWhole : ℕ → List Piece → List PartValue → Type 0
+IsWhole n leaves parts = (pieces : List Piece) × Joined leaves pieces × (parts ≡ map (part_of n) pieces) × AllStandApart parts
 
--- ---- a gift, and the end
+pub settled : (n : ℕ) (old : Tally) (items : List Part) (p : Part) → old.last ≡ Some p → items ≡ old.parts.items ++ p ∷ [] → (leaves : List Piece) → IsTally n old leaves → IsWhole n leaves (map part_value items)
+settled n old items p is pushed leaves h =
+    let at : IsLast n (Some p) h.tail = subst (λ (z : Option Part). IsLast n z h.tail) is h.last_is in
+    let values : map part_value items ≡ map part_value old.parts.items ++ part_value p ∷ [] = ap (map part_value) pushed ∙ map_append part_value old.parts.items (p ∷ []) in
+    let parts : map part_value items ≡ map (part_of n) (h.earlier ++ at.0 ∷ []) = values ∙ ((λ i. h.parts_are i ++ at.2 i ∷ []) ∙ sym (map_append (part_of n) h.earlier (at.0 ∷ []))) in
+    let same : h.earlier ++ h.tail ≡ h.earlier ++ at.0 ∷ [] = ap (λ (z : List Piece). h.earlier ++ z) at.1 in
+    let apart = last_apart (map part_value old.parts.items) p (subst (λ (z : Option Part). EndsApart (map part_value old.parts.items) z) is h.apart) in
+    (h.earlier ++ at.0 ∷ [], subst (λ (z : List Piece). Joined leaves z) same h.joined, parts, subst AllStandApart (sym values) apart)
+
+-- where there is no last part, all pieces stand before it
+pub none_settled : (n : ℕ) (tally : Tally) → tally.last ≡ None → (leaves : List Piece) → IsTally n tally leaves → IsWhole n leaves (map part_value tally.parts.items)
+none_settled n tally none leaves h =
+    let values = map part_value tally.parts.items in
+    let nil : h.tail ≡ [] = subst (λ (z : Option Part). IsLast n z h.tail) none h.last_is in
+    let same : h.earlier ++ h.tail ≡ h.earlier = ap (λ (z : List Piece). h.earlier ++ z) nil ∙ append-nil h.earlier in
+    (h.earlier, subst (λ (z : List Piece). Joined leaves z) same h.joined, h.parts_are, none_apart values (subst (λ (z : Option Part). EndsApart values z) none h.apart))
+
+-- what was put there allows a Cut behind it
+pub settled_cut : (old : Tally) (items : List Part) (p : Part) (key : ℕ) → old.last ≡ Some p → items ≡ old.parts.items ++ p ∷ [] → EndsApart (map part_value old.parts.items) old.last → AllowsCut key old.last → is_sat_or_cut old.last ≡ false → AllStandApart (map part_value items ++ value.Cut key ∷ [])
+settled_cut old items p key is pushed apart may other_than =
+    let before = map part_value old.parts.items in
+    let values : map part_value items ≡ before ++ part_value p ∷ [] = ap (map part_value) pushed ∙ map_append part_value old.parts.items (p ∷ []) in
+    let P : Option Part → Type 0 = λ z. EndsApart before z × AllowsCut key z × (is_sat_or_cut z ≡ false) in
+    let at : P (Some p) = subst P is (apart, may, other_than) in
+    subst (λ (z : List PartValue). AllStandApart (z ++ value.Cut key ∷ [])) (sym values) (cut_apart key before p at.1 at.2 at.0)
+
+pub none_settled_cut : (tally : Tally) (key : ℕ) → tally.last ≡ None → EndsApart (map part_value tally.parts.items) tally.last → AllStandApart (map part_value tally.parts.items ++ value.Cut key ∷ [])
+none_settled_cut tally key none apart =
+    let closed : AreClosedOff (map part_value tally.parts.items) = subst (λ (z : Option Part). EndsApart (map part_value tally.parts.items) z) none apart in
+    closed (value.Cut key)
+
+-- ---- a gift
 pub when_ok : {T E : Type 0} (r : Result T E) (P : Type 0) → OnOk r P → IsOk r → P
 when_ok (Ok x) P h is = h
 when_ok (Err e) P h is = cc is
 
--- where there is no last part, all pieces stand before it
-pub finished : (n : ℕ) (tally : Tally) → tally.last ≡ None → (leaves : List Piece) → IsTally n tally leaves → (pieces : List Piece) × Joined leaves pieces × (map part_value tally.parts.items ≡ map (part_of n) pieces)
-finished n tally none leaves h =
-    let nil : h.tail ≡ [] = subst (λ (z : Option Part). IsLast n z h.tail) none h.last_is in
-    let same : h.earlier ++ h.tail ≡ h.earlier = ap (λ (z : List Piece). h.earlier ++ z) nil ∙ append-nil h.earlier in
-    (h.earlier, subst (λ (z : List Piece). Joined leaves z) same h.joined, h.parts_are)
-
-pub gives : (n : ℕ) (old new : Tally) (path : Turns) → old.last ≡ None → new.parts.items ≡ old.parts.items ++ part.Gift path ∷ [] → new.last ≡ None → (leaves : List Piece) → IsTally n old leaves → IsTally n new (leaves ++ Gift path ∷ [])
-gives n old new path was pushed none leaves h =
-    let all = finished n old was leaves h in
+pub gives : (n : ℕ) (old new : Tally) (path : Turns) → new.parts.items ≡ old.parts.items ++ part.Gift path ∷ [] → new.last ≡ None → (leaves : List Piece) → IsWhole n leaves (map part_value old.parts.items) → IsTally n new (leaves ++ Gift path ∷ [])
+gives n old new path pushed none leaves all =
     let pieces = all.0 ++ Gift path ∷ [] in
-    let parts : map part_value new.parts.items ≡ map (part_of n) pieces =
-    ap (map part_value) pushed ∙ (map_append part_value old.parts.items (part.Gift path ∷ []) ∙ ((λ i. all.2 i ++ value.Gift path ∷ []) ∙ sym (map_append (part_of n) all.0 (Gift path ∷ [])))) in
+    let values : map part_value new.parts.items ≡ map part_value old.parts.items ++ value.Gift path ∷ [] = ap (map part_value) pushed ∙ map_append part_value old.parts.items (part.Gift path ∷ []) in
+    let parts : map part_value new.parts.items ≡ map (part_of n) pieces = values ∙ ((λ i. all.2 i ++ value.Gift path ∷ []) ∙ sym (map_append (part_of n) all.0 (Gift path ∷ []))) in
     record {
       earlier = pieces;
       tail = [];
       parts_are = parts;
       last_is = subst (λ (z : Option Part). IsLast n z []) (sym none) refl;
       joined = subst (λ (z : List Piece). Joined (leaves ++ Gift path ∷ []) z) (sym (append-nil pieces)) (joined_more (Gift path ∷ []) all.1);
+      apart = subst (λ (z : Option Part). EndsApart (map part_value new.parts.items) z) (sym none) (subst AreClosedOff (sym values) (gift_closes_off (map part_value old.parts.items) path all.3));
     }

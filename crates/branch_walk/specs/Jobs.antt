@@ -1,5 +1,5 @@
 -- Jobs: a path, and the context at which its walk begins.
-use Rattle.std.specs.Prelude.{◌≡◌, ◌≤◌, ℕ, Bool, true, false, [], ◌∷◌, ◌++◌, length}
+use Rattle.std.specs.Prelude.{◌≡◌, ◌≤◌, ℕ, zero, suc, Bool, true, false, [], ◌∷◌, ◌++◌, length}
 use Rattle.me_terms.specs.Values.{ProblemValue, ReasonValue, Pseudo, Asserted, SplitLeft, SplitRight}
 use Rattle.me_terms.specs.Context.{Context}
 use Rattle.me_terms.specs.Grown.{IsGrown}
@@ -24,8 +24,14 @@ pub record IsJob (problem : ProblemValue) (bounds : Bounds) (path : Turns) (cont
   pub grown : (positive : Bool) × IsGrown problem bounds positive context
   pub turns : turns_taken context ≡ path
 
--- What a walk of the path may give away: the right child of a node at or below it, of at most `share` turns.
+-- So many turns to the left.
+abbrev pub lefts : ℕ → Turns
+lefts zero = []
+lefts (suc n) = false ∷ lefts n
+
+-- What a walk of the path may give away: the right child of a node to which left turns alone lead from the path, of at most `share` turns.
 pub record MayBeGiven (share : ℕ) (path gift : Turns) : Type 0 where
   pub below : ProperlyExtends gift path
   pub right : EndsRight gift
   pub few : length gift ≤ share
+  pub beside_left : (n : ℕ) × (gift ≡ path ++ (lefts n ++ true ∷ []))

@@ -1,7 +1,8 @@
 -- What the walk of a portion hands back.
-use Rattle.std.specs.Prelude.{◌≡◌, ◌⊎◌, ◌<◌, ◌≤◌, ℕ, List, [], ◌∷◌, length, reverse}
+use Rattle.std.specs.Prelude.{◌≡◌, ◌⊎◌, ◌<◌, ◌≤◌, ℕ, List, [], ◌∷◌, ◌++◌, length, reverse}
 use Rattle.std.specs.List.{All, flat_map}
 use Rattle.me_terms.specs.Context.{Context}
+use Rattle.branch_core.specs.Joined.{Joins}
 use Rattle.branch_core.specs.Paths.{Turns, key, IsLeftOf}
 use Rattle.branch_core.specs.Parts.{PartValue, RecordValue}
 use Rattle.branch_core.specs.Parts as part
@@ -42,11 +43,20 @@ MayCut told pieces cut_key turns =
     (IsIn cut_key told × (cut_key < key turns))
     ⊎ ((leaf : Turns) × (context : Context) × IsIn (Sat leaf context) pieces × (key leaf ≡ cut_key) × IsLeftOf leaf turns)
 
--- The record stands for the path, over the tree of the whole search. Its Cuts have keys that were told, or that of its own Sat. Its gifts are those that were given away, each a right child below the path; the deepest stands first, and was given away last. What was posted is the key of its Sat, of which it has at most one.
+-- Two neighbours can be joined: there is a piece to which they are.
+abbrev pub CanJoin : Piece → Piece → Type 0
+CanJoin first second = (one : Piece) × Joins first second one
+
+-- Nothing is left to be joined: no two neighbours among the pieces can be.
+abbrev pub IsJoinedThrough : List Piece → Type 0
+IsJoinedThrough pieces = (before after : List Piece) (first second : Piece) → pieces ≡ before ++ first ∷ second ∷ after → ¬ CanJoin first second
+
+-- The record stands for the path, over the tree of the whole search, and its neighbours are joined wherever they can be. Its Cuts have keys that were told, or that of its own Sat. Its gifts are those that were given away, each a right child below the path; the deepest stands first, and was given away last. What was posted is the key of its Sat, of which it has at most one.
 pub record IsPortion (list_bound share : ℕ) (search : SearchTree) (path : Turns) (told : List ℕ) (given : List Turns) (posted : List ℕ) (record' : RecordValue) : Type 0 where
   pub pieces : List Piece
   pub record_is : record' ≡ record_of list_bound (record { path = path; pieces = pieces })
   pub stands : StandsFor (MayCut told pieces) search (record { path = path; pieces = pieces })
+  pub joined_through : IsJoinedThrough pieces
   pub gifts_are : given ≡ reverse (gifts pieces)
   pub lawful : All (MayBeGiven share path) given
   pub posted_are : posted ≡ sat_keys pieces

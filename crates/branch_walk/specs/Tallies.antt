@@ -1,6 +1,8 @@
 -- Tallies: what a walk has found so far, with neighbours joined.
 use Rattle.std.specs.Prelude.{◌≡◌, ◌+◌, ◌≤◌, ℕ, Bool, true, false, List, [], ◌∷◌, ◌++◌, map, length, Option, Some, None}
 use Rattle.branch_core.specs.Paths.{Turns}
+use Rattle.branch_core.specs.Parts.{PartValue}
+use Rattle.branch_core.specs.Parts as value
 use Rattle.branch_core.specs.PartViews.{part_value}
 use Rattle.branch_core.specs.Pieces.{Piece}
 use Rattle.branch_core.specs.Pieces as piece
@@ -33,13 +35,79 @@ abbrev pub IsLast : ℕ → Option Part → List Piece → Type 0
 IsLast list_bound None tail = tail ≡ []
 IsLast list_bound (Some part) tail = (one : Piece) × (tail ≡ one ∷ []) × (part_value part ≡ part_of list_bound one) × MayTakeMore one
 
--- The tally has the parts of pieces to which the leaves are joined.
+-- The part is a Gift, to which nothing is joined.
+abbrev pub IsGift : PartValue → Type 0
+IsGift (value.Closed l) = ⊥
+IsGift (value.Bounded b) = ⊥
+IsGift (value.Sat context) = ⊥
+IsGift (value.Gift turns) = Unit {0}
+IsGift (value.Cut key) = ⊥
+IsGift value.NoMemory = ⊥
+
+-- The part is not joined to an own leaf before it.
+abbrev pub StaysBehindLeaf : PartValue → Type 0
+StaysBehindLeaf (value.Closed l) = ⊥
+StaysBehindLeaf (value.Bounded b) = ⊥
+StaysBehindLeaf (value.Sat context) = ⊥
+StaysBehindLeaf (value.Gift turns) = Unit {0}
+StaysBehindLeaf (value.Cut key) = Unit {0}
+StaysBehindLeaf value.NoMemory = ⊥
+
+-- The part is not joined to a Cut with this key before it.
+abbrev pub StaysBehindCut : ℕ → PartValue → Type 0
+StaysBehindCut key (value.Closed l) = Unit {0}
+StaysBehindCut key (value.Bounded b) = Unit {0}
+StaysBehindCut key (value.Sat context) = Unit {0}
+StaysBehindCut key (value.Gift turns) = Unit {0}
+StaysBehindCut key (value.Cut other) = ¬ (key ≡ other)
+StaysBehindCut key value.NoMemory = ⊥
+
+-- The part is not joined to a NoMemory before it.
+abbrev pub StaysBehindLoss : PartValue → Type 0
+StaysBehindLoss (value.Closed l) = ⊥
+StaysBehindLoss (value.Bounded b) = ⊥
+StaysBehindLoss (value.Sat context) = Unit {0}
+StaysBehindLoss (value.Gift turns) = Unit {0}
+StaysBehindLoss (value.Cut key) = ⊥
+StaysBehindLoss value.NoMemory = ⊥
+
+-- Two neighbours that cannot be joined.
+abbrev pub StandApart : PartValue → PartValue → Type 0
+StandApart (value.Closed l) second = StaysBehindLeaf second
+StandApart (value.Bounded b) second = StaysBehindLeaf second
+StandApart (value.Sat context) second = IsGift second
+StandApart (value.Gift turns) second = Unit {0}
+StandApart (value.Cut key) second = StaysBehindCut key second
+StandApart value.NoMemory second = StaysBehindLoss second
+
+-- No two neighbours among the parts can be joined.
+abbrev pub AllStandApart : List PartValue → Type 0
+AllStandApart [] = Unit {0}
+AllStandApart (first ∷ []) = Unit {0}
+AllStandApart (first ∷ (second ∷ later)) = StandApart first second × AllStandApart (second ∷ later)
+
+-- The same, with whatever comes next.
+abbrev pub AreClosedOff : List PartValue → Type 0
+AreClosedOff parts = (next : PartValue) → AllStandApart (parts ++ next ∷ [])
+
+-- The last part cannot be joined to those before it, nor can what may take its place: only a Cut stands behind own leaves.
+abbrev pub EndsApart : List PartValue → Option Part → Type 0
+EndsApart parts None = AreClosedOff parts
+EndsApart parts (Some (Closed listed)) = AreClosedOff parts
+EndsApart parts (Some (Bounded b)) = AreClosedOff parts
+EndsApart parts (Some (Sat context)) = AreClosedOff parts
+EndsApart parts (Some (Gift path)) = AreClosedOff parts
+EndsApart parts (Some (Cut key)) = AllStandApart (parts ++ value.Cut key ∷ [])
+EndsApart parts (Some NoMemory) = AreClosedOff parts
+
+-- The tally has the parts of pieces to which the leaves are joined, and no two neighbours among them can be joined.
 pub record IsTally (list_bound : ℕ) (tally : Tally) (leaves : List Piece) : Type 0 where
   pub earlier : List Piece
   pub tail : List Piece
   pub parts_are : map part_value tally.parts.items ≡ map (part_of list_bound) earlier
   pub last_is : IsLast list_bound tally.last tail
   pub joined : Joined leaves (earlier ++ tail)
+  pub apart : EndsApart (map part_value tally.parts.items) tally.last
 
 -- So many further parts fit with no allocation.
 abbrev pub HasRoom : ℕ → Tally → Type 0
@@ -69,6 +137,16 @@ AllowsCut key (Some (Sat context)) = Unit {0}
 AllowsCut key (Some (Gift path)) = ⊥
 AllowsCut key (Some (Cut other)) = other ≡ key
 AllowsCut key (Some NoMemory) = ⊥
+
+-- A loss can be joined to the part, or can stand behind those before it.
+abbrev pub AllowsLoss : Option Part → Type 0
+AllowsLoss None = Unit {0}
+AllowsLoss (Some (Closed listed)) = Unit {0}
+AllowsLoss (Some (Bounded b)) = Unit {0}
+AllowsLoss (Some (Sat context)) = Unit {0}
+AllowsLoss (Some (Gift path)) = ⊥
+AllowsLoss (Some (Cut key)) = ⊥
+AllowsLoss (Some NoMemory) = Unit {0}
 
 -- The part is a bound that was met.
 abbrev pub is_bounded : Option Part → Bool
@@ -107,6 +185,10 @@ IsOpen tally = TakesLeaf tally.last
 -- A tally that takes in a Cut with this key.
 abbrev pub TakesCut : ℕ → Tally → Type 0
 TakesCut key tally = AllowsCut key tally.last
+
+-- A tally that takes in a loss.
+abbrev pub TakesLoss : Tally → Type 0
+TakesLoss tally = AllowsLoss tally.last
 
 -- A tally whose last part is an exhausted leaf's.
 abbrev pub IsSated : Tally → Type 0

@@ -17,7 +17,7 @@ use Rattle.branch_core.specs.SearchTree.{SearchTree, Leaf, IsSearchTree}
 use Rattle.branch_core.specs.Whole.{IsIn}
 use Rattle.branch_walk.specs.Jobs.{turns_taken, MayBeGiven}
 use Rattle.branch_walk.specs.Portions.{gifts, sat_key_of, sat_keys, MayCut}
-use Rattle.branch_walk.specs.Tallies.{IsTally, IsOpen, TakesCut, IsSated}
+use Rattle.branch_walk.specs.Tallies.{IsTally, IsOpen, TakesCut, TakesLoss, IsSated}
 use Rattle.branch_walk.specs.declared.tally.Tally.{Tally}
 use Rattle.branch_walk.specs.declared.state.State.{State}
 use Rattle.branch_walk.specs.declared.state.State.TheVariants.{Going, Cutting, Lost}
@@ -40,7 +40,7 @@ pub record Hears (old new : Heard) (gave : List Turns) (told sent : List ℕ) : 
 abbrev pub IsReady : State → Tally → Type 0
 IsReady Going tally = IsOpen tally
 IsReady (Cutting cut_key) tally = TakesCut cut_key tally
-IsReady Lost tally = Unit {0}
+IsReady Lost tally = TakesLoss tally
 
 -- In this state: no leaf was exhausted; or the key may cut all that stands right of the turns; or memory is out.
 abbrev pub GoesOn : State → List ℕ → List Piece → Turns → Type 0

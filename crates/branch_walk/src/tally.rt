@@ -2,7 +2,7 @@
 //!
 //! What follows is joined to the last part where it may be, so a tally has few parts. A contract says to
 //! which leaves and replaced subtrees the parts come.
-ghost use Rattle.std.specs.Prelude.{◌≡◌, ◌+◌, ◌≤◌, ℕ, [], ◌∷◌, ◌++◌, List, map, length, None, OnOk, OnErr};
+ghost use Rattle.std.specs.Prelude.{◌≡◌, ◌+◌, ◌≤◌, ℕ, false, [], ◌∷◌, ◌++◌, List, map, length, None, OnOk, OnErr};
 ghost use Rattle.me_terms.specs.Validity.{IsLawful, IsValid};
 ghost use Rattle.me_terms.specs.Values.{InstanceValue};
 ghost use Rattle.me_terms.specs.LeafList.{IsLeafList};
@@ -11,10 +11,11 @@ ghost use Rattle.branch_core.specs.Paths.{Turns};
 ghost use Rattle.branch_core.specs.Pieces.{Piece};
 ghost use Rattle.branch_core.specs.Pieces as piece;
 ghost use Rattle.branch_core.specs.Joined.{Joined};
+ghost use Rattle.branch_core.specs.Parts as value;
 ghost use Rattle.branch_core.specs.PartViews.{part_value};
 ghost use Rattle.branch_core.specs.StandsFor.{part_of};
 ghost use Rattle.ground_refutation.specs.Queue.{IsGrownOver};
-ghost use Rattle.branch_walk.specs.Tallies.{IsTally, HasRoom, AddsAtMost, IsOpen, TakesCut, IsSated, cuts, losses, is_bounded, is_sat, is_sat_or_cut};
+ghost use Rattle.branch_walk.specs.Tallies.{IsTally, HasRoom, AddsAtMost, IsOpen, TakesCut, TakesLoss, IsSated, AllStandApart, EndsApart, AllowsCut, cuts, losses, is_bounded, is_sat, is_sat_or_cut};
 
 use crate::entries::entries_of;
 use crate::listing::{join_listed, leaf_listed};
@@ -145,7 +146,9 @@ impl Tally {
 
     /// With one or more neighbouring nodes that are lost for want of memory.
     pub(crate) fn lose(&mut self)
+        requires { TakesLoss self.old }
         ensures tally { (list_bound : ℕ) (leaves : List Piece) (turns : Turns) (later : List Turns) → IsTally list_bound self.old leaves → IsTally list_bound self.new (leaves ++ losses (turns ∷ later)) }
+        ensures takes { TakesLoss self.new }
         ensures pushes { AddsAtMost 0 self.old self.new }
     {
         if self.is_sated() {
@@ -168,7 +171,7 @@ impl Tally {
     /// All the parts.
     pub(crate) fn finish(mut self) -> Parts
         requires room { HasRoom 1 self }
-        ensures pieces { (list_bound : ℕ) (leaves : List Piece) → IsTally list_bound self leaves → (pieces : List Piece) × Joined leaves pieces × (map part_value result.items ≡ map (part_of list_bound) pieces) }
+        ensures pieces { (list_bound : ℕ) (leaves : List Piece) → IsTally list_bound self leaves → (pieces : List Piece) × Joined leaves pieces × (map part_value result.items ≡ map (part_of list_bound) pieces) × AllStandApart (map part_value result.items) }
         ensures few { length result.items ≤ length self.parts.items + 1 }
     {
         self.settle();
@@ -225,7 +228,8 @@ impl Tally {
     /// Puts the last part behind those to which nothing is joined any more.
     fn settle(&mut self)
         requires room { HasRoom 1 self.old }
-        ensures tally { (list_bound : ℕ) (leaves : List Piece) → IsTally list_bound self.old leaves → IsTally list_bound self.new leaves }
+        ensures pieces { (list_bound : ℕ) (leaves : List Piece) → IsTally list_bound self.old leaves → (pieces : List Piece) × Joined leaves pieces × (map part_value self.new.parts.items ≡ map (part_of list_bound) pieces) × AllStandApart (map part_value self.new.parts.items) }
+        ensures cut { (key : ℕ) → EndsApart (map part_value self.old.parts.items) self.old.last → AllowsCut key self.old.last → is_sat_or_cut self.old.last ≡ false → AllStandApart (map part_value self.new.parts.items ++ value.Cut key ∷ []) }
         ensures none { self.new.last ≡ None }
         ensures pushes { AddsAtMost 1 self.old self.new }
     {

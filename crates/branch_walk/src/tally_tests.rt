@@ -47,10 +47,10 @@ fn a_gift_stands_between(rt: HostRuntime) -> Result<(), Fail> {
 }
 
 #[test]
-fn a_loss_takes_in_cuts(rt: HostRuntime) -> Result<(), Fail> {
+fn a_loss_takes_in_a_bound_and_a_loss(rt: HostRuntime) -> Result<(), Fail> {
     let mut tally = Tally::new(room(rt.alloc())?);
-    tally.cut(3);
-    tally.cut(3);
+    tally.add_bound(Bound::Depth);
+    tally.lose();
     tally.lose();
     let parts = tally.finish();
     assert!(rt; matches!(parts.get(0), Some(Part::NoMemory)));

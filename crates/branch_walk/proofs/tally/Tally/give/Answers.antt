@@ -8,4 +8,4 @@ returns-clause-tally c n leaves h =
     let old = c.settle.new.self in
     let room = c.settle.ensures.pushes.room in
     let pushed : c.push.new.self.items ≡ old.parts.items ++ part.Gift c.args.path ∷ [] = when_ok c.push.result _ c.push.ensures.ok (c.push.ensures.room (omega (arith, c.requires.room, room))).0 in
-    gives n old _ c.args.path c.settle.ensures.none pushed c.settle.ensures.none leaves (c.settle.ensures.tally n leaves h)
+    gives n old _ c.args.path pushed c.settle.ensures.none leaves (c.settle.ensures.pieces n leaves h)

@@ -104,7 +104,7 @@ spine-state-requires g t c κs within =
                       (c.requires.kept.0, subst T (sym same) c.requires.kept.1),
                       (
                         omega (arith, number, long, one_more, c.from.ensures, c.if-from-share.false, room, spare),
-                        λ gift work may is_job is. (c.give_right-away.ensures.condition gift work).0 ((c.to_split.ensures.condition gift work).0 (c.requires.hook gift work (given_deeper c.args.share c.args.path left gift false left_is may) is_job is)),
+                        λ gift work may is_job is. (c.give_right-away.ensures.condition gift work).0 ((c.to_split.ensures.condition gift work).0 (c.requires.hook gift work (given_deeper c.args.share c.args.path left gift left_is may) is_job is)),
                       ),
                     ),
                   ),

@@ -4,7 +4,9 @@ use Rattle.me_terms.specs.Context.{Context}
 use Rattle.me_terms.specs.Grown.{IsGrown, split_entry}
 use Rattle.me_terms.specs.Measures.{complement}
 use Rattle.branch_walk.specs.Turning.{EndsLeft}
-use Rattle.branch_walk.specs.Walks.{Heard}
+use Rattle.branch_walk.specs.Walks.{Heard, IsReady}
+use Rattle.branch_walk.specs.declared.state.State.{State}
+use Rattle.branch_walk.proofs.Pushes.{open_loses}
 use Rattle.branch_walk.proofs.Spines.{gave_away, cut_right, lost_right, walked_right, ready_open, left_ends, left_is_grown, right_grown}
 use Rattle.branch_walk.proofs.turning.Search.after_left.Goals as goal
 
@@ -101,3 +103,13 @@ returns-in-Lost-clause-walked g c = λ share node start first hl.
       lost_right problem bounds share c.args.away c.args.right c.args.base c.args.state stands_at node start mid first c.args.tally.now hl c.if-away.false c.lose-in-Lost.new.self (λ before t. c.lose-in-Lost.ensures.tally bounds.list before c.args.right [] t),
       λ going. cc going,
     )
+
+pub lose-requires : goal.lose-requires
+lose-requires g c =
+    let R : State → Type 0 = λ s. IsReady s c.args.tally.now in
+    open_loses c.args.tally.now.last (subst R c.in-Going.is c.requires.ready)
+
+pub lose-requires-in-Lost : goal.lose-requires-in-Lost
+lose-requires-in-Lost g c =
+    let R : State → Type 0 = λ s. IsReady s c.args.tally.now in
+    subst R c.in-Lost.is c.requires.ready

@@ -1,14 +1,14 @@
 use Rattle.std.proofs.Common.{ℕ, ◌≤◌, Bool, List, ◌∷◌, ◌++◌, length, sym, subst, arith}
 use Rattle.me_terms.specs.Context.{Context}
 use Rattle.branch_core.specs.Pieces.{Piece}
-use Rattle.branch_walk.specs.Tallies.{IsTally, cuts, losses}
+use Rattle.branch_walk.specs.Tallies.{IsTally, TakesLoss, cuts, losses}
 use Rattle.branch_walk.specs.Turning.{IsAllBack, IsBackAtLeft}
 use Rattle.branch_walk.specs.Walks.{Heard}
 use Rattle.branch_core.specs.Paths.{Turns}
 use Rattle.branch_walk.specs.declared.state.Visit.TheVariants as visit
 use Rattle.branch_walk.specs.declared.tally.Tally.{Tally}
 use Rattle.branch_walk.proofs.OwnParts.{told_longer}
-use Rattle.branch_walk.proofs.Pushes.{adds_none, adds_then}
+use Rattle.branch_walk.proofs.Pushes.{adds_none, adds_then, open_loses}
 use Rattle.me_terms.specs.Grown.{IsGrown}
 use Rattle.branch_walk.proofs.Reasons.{left_grown}
 use Rattle.branch_walk.proofs.Spines.{same_gifts}
@@ -321,3 +321,34 @@ returns-in-Cut-clause-quiet g c = λ unheard.
     let v = c.visit.ensures.visited in
     let at = visited_at problem bounds from to c.walk.tally c.visit.new.tally v.0 v.1 c.visit.result (visit.Cut c.in-Cut.key) c.in-Cut.is v.3 in
     absurd (told_longer c.in-Cut.key first.seen h.seen now.seen w.told v.0 w.hears.seen v.2.seen at.0 unheard)
+
+pub lose-requires : goal.lose-requires
+lose-requires g c =
+    let problem = c.args.self.now.problem.now in
+    let bounds = c.args.self.now.bounds.now in
+    let root = g.T.View.context c.args.branch.now in
+    let from = g.T.View.context c.walk.branch in
+    let to = g.T.View.context c.visit.new.branch in
+    let first : Heard = record { given = g.H.Hook.given c.args.hook.now; seen = g.H.Hook.seen c.args.hook.now; posted = g.H.Hook.posted c.args.hook.now } in
+    let h : Heard = record { given = g.H.Hook.given c.walk.hook; seen = g.H.Hook.seen c.walk.hook; posted = g.H.Hook.posted c.walk.hook } in
+    let now : Heard = record { given = g.H.Hook.given c.visit.new.hook; seen = g.H.Hook.seen c.visit.new.hook; posted = g.H.Hook.posted c.visit.new.hook } in
+    let w = c.walk.invariant.walking in
+    let v = c.visit.ensures.visited in
+    let at = visited_at problem bounds from to c.walk.tally c.visit.new.tally v.0 v.1 c.visit.result visit.Leaf c.in-Leaf.is v.3 in
+    open_loses c.visit.new.tally.last at.0.is_open
+
+pub lose-requires-in-Lost : goal.lose-requires-in-Lost
+lose-requires-in-Lost g c =
+    let problem = c.args.self.now.problem.now in
+    let bounds = c.args.self.now.bounds.now in
+    let root = g.T.View.context c.args.branch.now in
+    let from = g.T.View.context c.walk.branch in
+    let to = g.T.View.context c.visit.new.branch in
+    let first : Heard = record { given = g.H.Hook.given c.args.hook.now; seen = g.H.Hook.seen c.args.hook.now; posted = g.H.Hook.posted c.args.hook.now } in
+    let h : Heard = record { given = g.H.Hook.given c.walk.hook; seen = g.H.Hook.seen c.walk.hook; posted = g.H.Hook.posted c.walk.hook } in
+    let now : Heard = record { given = g.H.Hook.given c.visit.new.hook; seen = g.H.Hook.seen c.visit.new.hook; posted = g.H.Hook.posted c.visit.new.hook } in
+    let w = c.walk.invariant.walking in
+    let v = c.visit.ensures.visited in
+    let at = visited_at problem bounds from to c.walk.tally c.visit.new.tally v.0 v.1 c.visit.result visit.Lost c.in-Lost.is v.3 in
+    let L : Tally → Type 0 = λ t. TakesLoss t in
+    subst L (sym at.0) (open_loses c.walk.tally.last w.is_open)

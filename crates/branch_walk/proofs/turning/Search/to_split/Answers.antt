@@ -1,14 +1,14 @@
 use Rattle.std.proofs.Common.{List, [], ◌∷◌, ◌++◌, length, append-nil, refl, sym, subst, ◌∙◌}
 use Rattle.branch_core.specs.Paths.{Turns}
 use Rattle.branch_core.specs.Pieces.{Piece}
-use Rattle.branch_walk.specs.Tallies.{IsTally, IsOpen, cuts, losses}
+use Rattle.branch_walk.specs.Tallies.{IsTally, IsOpen, TakesLoss, cuts, losses}
 use Rattle.branch_walk.specs.Walks.{Heard}
 use Rattle.branch_walk.specs.declared.state.State.TheVariants as state
 use Rattle.branch_walk.specs.declared.state.Visit.TheVariants as visit
 use Rattle.branch_walk.specs.declared.tally.Tally.{Tally}
 use Rattle.branch_walk.specs.Turning.{IsAllBack}
 use Rattle.branch_walk.proofs.Descents.{descends, lifted}
-use Rattle.branch_walk.proofs.Pushes.{sated_takes}
+use Rattle.branch_walk.proofs.Pushes.{open_loses, sated_takes}
 use Rattle.branch_walk.proofs.Spines.{same_gifts}
 use Rattle.branch_walk.proofs.Subtrees.{ends_cut, ends_exhausted, ends_going, ends_lost, visited_at, walk_begins}
 use Rattle.branch_walk.proofs.Tallied.{sated_takes_cuts}
@@ -113,6 +113,22 @@ returns-in-Lost-clause-ended g c =
     let at = visited_at problem bounds from to c.down.tally c.visit.new.tally v.0 v.1 c.visit.result visit.Lost c.in-Lost.is v.3 in
     let T : Tally → Type 0 = λ t. (leaves : List Piece) (node : Turns) (nodes : List Turns) → IsTally bounds.list t leaves → IsTally bounds.list c.lose.new.self (leaves ++ losses (node ∷ nodes)) in (
       λ share. lifted problem bounds context from first h now c.args.tally.now c.down.tally c.lose.new.self state.Lost share d.told d.leads d.hears d.same (ends_lost problem bounds from h c.down.tally from h now c.down.tally c.lose.new.self v.0 v.1 w v.2 at.1 (subst T at.0 (λ leaves node nodes t. c.lose.ensures.tally bounds.list leaves node nodes t)) share),
-      tt,
+      c.lose.ensures.takes,
       λ is. cc is,
     )
+
+pub lose-requires : goal.lose-requires
+lose-requires g c =
+    let problem = c.args.self.now.problem.now in
+    let bounds = c.args.self.now.bounds.now in
+    let context = g.T.View.context c.args.branch.now in
+    let from = g.T.View.context c.down.branch in
+    let to = g.T.View.context c.visit.new.branch in
+    let first : Heard = record { given = g.H.Hook.given c.args.hook.now; seen = g.H.Hook.seen c.args.hook.now; posted = g.H.Hook.posted c.args.hook.now } in
+    let h : Heard = record { given = g.H.Hook.given c.down.hook; seen = g.H.Hook.seen c.down.hook; posted = g.H.Hook.posted c.down.hook } in
+    let now : Heard = record { given = g.H.Hook.given c.visit.new.hook; seen = g.H.Hook.seen c.visit.new.hook; posted = g.H.Hook.posted c.visit.new.hook } in
+    let d = c.down.invariant.walking in
+    let v = c.visit.ensures.visited in
+    let at = visited_at problem bounds from to c.down.tally c.visit.new.tally v.0 v.1 c.visit.result visit.Lost c.in-Lost.is v.3 in
+    let L : Tally → Type 0 = λ t. TakesLoss t in
+    subst L (sym (at.0 ∙ d.same)) (open_loses c.args.tally.now.last c.requires.open)
