@@ -21,4 +21,6 @@ pub use next::next_unifier;
 pub use productive::is_productive;
 
 #[cfg(test)]
+mod productive_tests;
+#[cfg(test)]
 mod tests;

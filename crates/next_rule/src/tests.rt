@@ -80,10 +80,7 @@ fn with(literals: Literals, literal: Literal) -> Result<Literals, AllocError> {
 
 /// p(a)
 fn of_constant(alloc: Global) -> Result<Literals, AllocError> {
-    with(
-        Literals::new(alloc),
-        literal(alloc, true, constant(alloc))?,
-    )
+    with(Literals::new(alloc), literal(alloc, true, constant(alloc))?)
 }
 
 /// p(f(a))
@@ -180,12 +177,7 @@ fn found(next: &Next) -> Found {
 }
 
 /// The first step of a problem of two clauses.
-fn step(
-    alloc: Global,
-    first: Literals,
-    second: Literals,
-    bounds: &Bounds,
-) -> Result<Found, Fail>
+fn step(alloc: Global, first: Literals, second: Literals, bounds: &Bounds) -> Result<Found, Fail>
     requires { IsLawful bounds.now }
 {
     let problem = problem(alloc, first, second)?;
@@ -208,7 +200,12 @@ fn the_second_clause_closes(rt: HostRuntime) -> Result<(), Fail> {
 #[test]
 fn the_first_of_two_asserts(rt: HostRuntime) -> Result<(), Fail> {
     let alloc = rt.alloc();
-    let found = step(alloc, of_constant(alloc)?, negative(alloc)?, &bounds(1, 9, 9))?;
+    let found = step(
+        alloc,
+        of_constant(alloc)?,
+        negative(alloc)?,
+        &bounds(1, 9, 9),
+    )?;
     assert!(rt; found == Found::Assert(0));
     Ok(())
 }
@@ -217,7 +214,12 @@ fn the_first_of_two_asserts(rt: HostRuntime) -> Result<(), Fail> {
 #[test]
 fn the_lighter_of_two_asserts(rt: HostRuntime) -> Result<(), Fail> {
     let alloc = rt.alloc();
-    let found = step(alloc, of_deep(alloc)?, of_constant(alloc)?, &bounds(2, 9, 9))?;
+    let found = step(
+        alloc,
+        of_deep(alloc)?,
+        of_constant(alloc)?,
+        &bounds(2, 9, 9),
+    )?;
     assert!(rt; found == Found::Assert(1));
     Ok(())
 }
@@ -225,7 +227,12 @@ fn the_lighter_of_two_asserts(rt: HostRuntime) -> Result<(), Fail> {
 #[test]
 fn a_full_context(rt: HostRuntime) -> Result<(), Fail> {
     let alloc = rt.alloc();
-    let found = step(alloc, of_constant(alloc)?, negative(alloc)?, &bounds(1, 9, 1))?;
+    let found = step(
+        alloc,
+        of_constant(alloc)?,
+        negative(alloc)?,
+        &bounds(1, 9, 1),
+    )?;
     assert!(rt; found == Found::Bounded(Bound::Literals));
     Ok(())
 }
@@ -233,7 +240,12 @@ fn a_full_context(rt: HostRuntime) -> Result<(), Fail> {
 #[test]
 fn all_is_too_heavy(rt: HostRuntime) -> Result<(), Fail> {
     let alloc = rt.alloc();
-    let found = step(alloc, of_constant(alloc)?, negative(alloc)?, &bounds(1, 1, 9))?;
+    let found = step(
+        alloc,
+        of_constant(alloc)?,
+        negative(alloc)?,
+        &bounds(1, 1, 9),
+    )?;
     assert!(rt; found == Found::Bounded(Bound::Weight));
     Ok(())
 }
@@ -251,7 +263,12 @@ fn depth_is_named_before_weight(rt: HostRuntime) -> Result<(), Fail> {
 #[test]
 fn nothing_is_left(rt: HostRuntime) -> Result<(), Fail> {
     let alloc = rt.alloc();
-    let found = step(alloc, negative_twice(alloc)?, negative_twice(alloc)?, &bounds(1, 9, 9))?;
+    let found = step(
+        alloc,
+        negative_twice(alloc)?,
+        negative_twice(alloc)?,
+        &bounds(1, 9, 9),
+    )?;
     assert!(rt; found == Found::Exhausted);
     Ok(())
 }
