@@ -195,7 +195,15 @@ fn the_tuples_come_in_order(rt: HostRuntime) -> Result<(), Fail> {
 fn literals_may_repeat(rt: HostRuntime) -> Result<(), Fail> {
     let alloc = rt.alloc();
     let literals = two(alloc, 0)?;
-    assert!(rt; are(alloc, &literals, None, Limits::none(), &[0, 0, 0, 1, 1, 0, 1, 1])?);
+    assert!(rt;
+        are(
+            alloc,
+            &literals,
+            None,
+            Limits::none(),
+            &[0, 0, 0, 1, 1, 0, 1, 1]
+        )?
+    );
     Ok(())
 }
 
@@ -204,7 +212,15 @@ fn literals_may_repeat(rt: HostRuntime) -> Result<(), Fail> {
 fn a_remainder_may_be_ruled_out(rt: HostRuntime) -> Result<(), Fail> {
     let alloc = rt.alloc();
     let literals = two(alloc, 0)?;
-    assert!(rt; are(alloc, &literals, None, Limits::of_remainder(Some(0)), &[1, 1])?);
+    assert!(rt;
+        are(
+            alloc,
+            &literals,
+            None,
+            Limits::of_remainder(Some(0)),
+            &[1, 1]
+        )?
+    );
     Ok(())
 }
 
@@ -244,7 +260,13 @@ fn prefixes_without_unifier_are_left(rt: HostRuntime) -> Result<(), Fail> {
     let alloc = rt.alloc();
     let context = denied(alloc, 199)?;
     let literals = six(alloc)?;
-    let mut cursor = Cursor::new(alloc, &literals, None, Limits::of_remainder(Some(0)), &context);
+    let mut cursor = Cursor::new(
+        alloc,
+        &literals,
+        None,
+        Limits::of_remainder(Some(0)),
+        &context,
+    );
     assert!(rt; !cursor.advance()?);
     Ok(())
 }
@@ -265,7 +287,15 @@ fn no_literals_have_one_tuple(rt: HostRuntime) -> Result<(), Fail> {
 fn the_first_place_may_be_skipped(rt: HostRuntime) -> Result<(), Fail> {
     let alloc = rt.alloc();
     let literals = two(alloc, 1)?;
-    assert!(rt; are(alloc, &literals, Some(0), Limits::of_remainder(Some(0)), &[])?);
+    assert!(rt;
+        are(
+            alloc,
+            &literals,
+            Some(0),
+            Limits::of_remainder(Some(0)),
+            &[]
+        )?
+    );
     Ok(())
 }
 
@@ -274,7 +304,15 @@ fn the_first_place_may_be_skipped(rt: HostRuntime) -> Result<(), Fail> {
 fn the_last_place_may_be_skipped(rt: HostRuntime) -> Result<(), Fail> {
     let alloc = rt.alloc();
     let literals = two(alloc, 1)?;
-    assert!(rt; are(alloc, &literals, Some(1), Limits::of_remainder(Some(0)), &[1])?);
+    assert!(rt;
+        are(
+            alloc,
+            &literals,
+            Some(1),
+            Limits::of_remainder(Some(0)),
+            &[1]
+        )?
+    );
     Ok(())
 }
 

@@ -64,13 +64,7 @@ impl<'a, V: View> Search<'a, V> {
         ensures { IfOk result (λ better. TakesAsserts self.now.problem.now self.now.bounds.now (V.context self.now.view.now) (AssertPlace index place) best better) }
     {
         let limits = limits_before(self.alloc, self.bounds, &best)?;
-        let mut cursor = Cursor::new(
-            self.alloc,
-            &clause.literals,
-            Some(place),
-            limits,
-            self.view,
-        );
+        let mut cursor = Cursor::new(self.alloc, &clause.literals, Some(place), limits, self.view);
         while cursor.advance()? {
             best = self.assert_at(clause, index, place, cursor.tuple(), best)?;
             cursor.limit(limits_before(self.alloc, self.bounds, &best)?)?;

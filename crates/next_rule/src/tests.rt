@@ -80,10 +80,7 @@ fn with(literals: Literals, literal: Literal) -> Result<Literals, AllocError> {
 
 /// p(a)
 fn of_constant(alloc: Global) -> Result<Literals, AllocError> {
-    with(
-        Literals::new(alloc),
-        literal(alloc, true, constant(alloc))?,
-    )
+    with(Literals::new(alloc), literal(alloc, true, constant(alloc))?)
 }
 
 /// p(f(a))
@@ -101,12 +98,17 @@ fn negative_twice(alloc: Global) -> Result<Literals, AllocError> {
     with(negative(alloc)?, literal(alloc, false, Term::Var(0))?)
 }
 
-/// p(a) | p(X)
-fn pair(alloc: Global) -> Result<Literals, AllocError> {
-    with(of_constant(alloc)?, literal(alloc, true, Term::Var(0))?)
+/// p(X)
+fn of_variable(alloc: Global) -> Result<Literals, AllocError> {
+    with(Literals::new(alloc), literal(alloc, true, Term::Var(0))?)
 }
 
-/// p(a) | p(X) | p(a)
+/// p(X) | p(a)
+fn pair(alloc: Global) -> Result<Literals, AllocError> {
+    with(of_variable(alloc)?, literal(alloc, true, constant(alloc))?)
+}
+
+/// p(X) | p(a) | p(a)
 fn longer(alloc: Global) -> Result<Literals, AllocError> {
     with(pair(alloc)?, literal(alloc, true, constant(alloc))?)
 }
@@ -169,7 +171,7 @@ fn clause_of(entry: &Entry) -> u32 {
     }
 }
 
-fn found(next: &Next) -> Found {
+fn summary_of(next: &Next) -> Found {
     match next {
         Next::Close { clause, .. } => Found::Close(*clause),
         Next::Assert { entry } => Found::Assert(clause_of(entry)),
@@ -180,12 +182,7 @@ fn found(next: &Next) -> Found {
 }
 
 /// The first step of a problem of two clauses.
-fn step(
-    alloc: Global,
-    first: Literals,
-    second: Literals,
-    bounds: &Bounds,
-) -> Result<Found, Fail>
+fn step(alloc: Global, first: Literals, second: Literals, bounds: &Bounds) -> Result<Found, Fail>
     requires { IsLawful bounds.now }
 {
     let problem = problem(alloc, first, second)?;
@@ -194,7 +191,7 @@ fn step(
     }
     let context = Context::new(alloc)?;
     let next = next_step(alloc, &problem, &context, bounds)?;
-    Ok(found(&next))
+    Ok(summary_of(&next))
 }
 
 #[test]
@@ -208,7 +205,12 @@ fn the_second_clause_closes(rt: HostRuntime) -> Result<(), Fail> {
 #[test]
 fn the_first_of_two_asserts(rt: HostRuntime) -> Result<(), Fail> {
     let alloc = rt.alloc();
-    let found = step(alloc, of_constant(alloc)?, negative(alloc)?, &bounds(1, 9, 9))?;
+    let found = step(
+        alloc,
+        of_constant(alloc)?,
+        negative(alloc)?,
+        &bounds(1, 9, 9),
+    )?;
     assert!(rt; found == Found::Assert(0));
     Ok(())
 }
@@ -217,7 +219,12 @@ fn the_first_of_two_asserts(rt: HostRuntime) -> Result<(), Fail> {
 #[test]
 fn the_lighter_of_two_asserts(rt: HostRuntime) -> Result<(), Fail> {
     let alloc = rt.alloc();
-    let found = step(alloc, of_deep(alloc)?, of_constant(alloc)?, &bounds(2, 9, 9))?;
+    let found = step(
+        alloc,
+        of_deep(alloc)?,
+        of_constant(alloc)?,
+        &bounds(2, 9, 9),
+    )?;
     assert!(rt; found == Found::Assert(1));
     Ok(())
 }
@@ -225,7 +232,12 @@ fn the_lighter_of_two_asserts(rt: HostRuntime) -> Result<(), Fail> {
 #[test]
 fn a_full_context(rt: HostRuntime) -> Result<(), Fail> {
     let alloc = rt.alloc();
-    let found = step(alloc, of_constant(alloc)?, negative(alloc)?, &bounds(1, 9, 1))?;
+    let found = step(
+        alloc,
+        of_constant(alloc)?,
+        negative(alloc)?,
+        &bounds(1, 9, 1),
+    )?;
     assert!(rt; found == Found::Bounded(Bound::Literals));
     Ok(())
 }
@@ -233,7 +245,12 @@ fn a_full_context(rt: HostRuntime) -> Result<(), Fail> {
 #[test]
 fn all_is_too_heavy(rt: HostRuntime) -> Result<(), Fail> {
     let alloc = rt.alloc();
-    let found = step(alloc, of_constant(alloc)?, negative(alloc)?, &bounds(1, 1, 9))?;
+    let found = step(
+        alloc,
+        of_constant(alloc)?,
+        negative(alloc)?,
+        &bounds(1, 1, 9),
+    )?;
     assert!(rt; found == Found::Bounded(Bound::Weight));
     Ok(())
 }
@@ -251,7 +268,12 @@ fn depth_is_named_before_weight(rt: HostRuntime) -> Result<(), Fail> {
 #[test]
 fn nothing_is_left(rt: HostRuntime) -> Result<(), Fail> {
     let alloc = rt.alloc();
-    let found = step(alloc, negative_twice(alloc)?, negative_twice(alloc)?, &bounds(1, 9, 9))?;
+    let found = step(
+        alloc,
+        negative_twice(alloc)?,
+        negative_twice(alloc)?,
+        &bounds(1, 9, 9),
+    )?;
     assert!(rt; found == Found::Exhausted);
     Ok(())
 }
