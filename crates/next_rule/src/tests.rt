@@ -98,12 +98,17 @@ fn negative_twice(alloc: Global) -> Result<Literals, AllocError> {
     with(negative(alloc)?, literal(alloc, false, Term::Var(0))?)
 }
 
-/// p(a) | p(X)
-fn pair(alloc: Global) -> Result<Literals, AllocError> {
-    with(of_constant(alloc)?, literal(alloc, true, Term::Var(0))?)
+/// p(X)
+fn of_variable(alloc: Global) -> Result<Literals, AllocError> {
+    with(Literals::new(alloc), literal(alloc, true, Term::Var(0))?)
 }
 
-/// p(a) | p(X) | p(a)
+/// p(X) | p(a)
+fn pair(alloc: Global) -> Result<Literals, AllocError> {
+    with(of_variable(alloc)?, literal(alloc, true, constant(alloc))?)
+}
+
+/// p(X) | p(a) | p(a)
 fn longer(alloc: Global) -> Result<Literals, AllocError> {
     with(pair(alloc)?, literal(alloc, true, constant(alloc))?)
 }
@@ -166,7 +171,7 @@ fn clause_of(entry: &Entry) -> u32 {
     }
 }
 
-fn found(next: &Next) -> Found {
+fn summary_of(next: &Next) -> Found {
     match next {
         Next::Close { clause, .. } => Found::Close(*clause),
         Next::Assert { entry } => Found::Assert(clause_of(entry)),
@@ -186,7 +191,7 @@ fn step(alloc: Global, first: Literals, second: Literals, bounds: &Bounds) -> Re
     }
     let context = Context::new(alloc)?;
     let next = next_step(alloc, &problem, &context, bounds)?;
-    Ok(found(&next))
+    Ok(summary_of(&next))
 }
 
 #[test]
