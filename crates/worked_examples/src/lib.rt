@@ -2,4 +2,12 @@
 #![tactic(auto)]
 
 #[cfg(test)]
+mod keeper;
+#[cfg(test)]
+mod notes;
+#[cfg(test)]
+mod problems;
+#[cfg(test)]
 mod tests;
+#[cfg(test)]
+mod walk_tests;

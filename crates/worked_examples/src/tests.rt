@@ -1,23 +1,12 @@
 //! Problems that are written and read back.
 
+use crate::problems::read;
 use cnf_writer::write_problem;
 use make_problem::make;
 use me_terms::Problem;
 use problem_plainness::is_plain;
 use std::alloc::Global;
 use std::test::Fail;
-use tptp_cnf::read_problem;
-
-/// The problem that the text means.
-fn read(alloc: Global, text: &[u8]) -> Result<Problem, Fail> {
-    if text.len() > 67_108_864 {
-        return Err(Fail::from("too long"));
-    }
-    match read_problem(alloc, text) {
-        Ok(problem) => Ok(problem),
-        Err(_) => Err(Fail::from("refused")),
-    }
-}
 
 /// A plain problem's text.
 fn written(alloc: Global, problem: &Problem) -> Result<Vec<u8>, Fail> {
