@@ -45,7 +45,7 @@ CHANGES = [
     ('Contradictory', 'Clash Parametric p Universal q = Generalizes q p', 'Clash Parametric p Universal q = Generalizes p q'),
     ('Contradictory', 'Clash Parametric p Parametric q = IsVariant p q', 'Clash Parametric p Parametric q = Unifiable p q'),
     ('Contradictory', '(e.positive ≡ not positive) × Clash e.kind e.atom kind p', '(e.positive ≡ positive) × Clash e.kind e.atom kind p'),
-    ('Contradictory', '(k : ℕ) × (e : EntryValue) × IsVisible context k e × (e.positive', '(k : ℕ) × (e : EntryValue) × (IsVisible context k e ⊎ StandsHere context k e) × (e.positive'),
+    ('Contradictory', '(k : ℕ) × (e : EntryValue) × IsVisible context k e × (e.positive', '(k : ℕ) × (e : EntryValue) × (¬ IsVisible context k e) × (e.positive'),
     ('Produces', '× ((f.kind ≡ Universal) ⊎ ((f.kind ≡ Parametric) × IsStrictlyMoreGeneral e.atom f.atom))', '× ((f.kind ≡ Universal) ⊎ (f.kind ≡ Universal))'),
     ('Produces', '× ((f.kind ≡ Universal) ⊎ ((f.kind ≡ Parametric) × IsStrictlyMoreGeneral e.atom f.atom))', '× ((f.kind ≡ Universal) ⊎ ((f.kind ≡ Parametric) × Generalizes e.atom f.atom))'),
     ('Produces', '× ((f.kind ≡ Universal) ⊎ ((f.kind ≡ Parametric) × IsStrictlyMoreGeneral e.atom f.atom))', '× (f.positive ≡ e.positive) × ((f.kind ≡ Universal) ⊎ ((f.kind ≡ Parametric) × IsStrictlyMoreGeneral e.atom f.atom))'),
