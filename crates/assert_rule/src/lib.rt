@@ -11,6 +11,3 @@ mod ranks;
 
 pub use asserting::{assert_before, assert_of};
 pub use candidate::Candidate;
-
-#[cfg(test)]
-mod tests;

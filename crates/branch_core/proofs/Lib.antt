@@ -6,7 +6,6 @@ pub mod CutsFollow
 pub mod Filling
 pub mod FillingIn
 pub mod GatheredLists
-pub mod GiftChain
 pub mod LeftParts
 pub mod OneFilling
 pub mod Orderly

@@ -20,7 +20,6 @@ pub mod Runs
 pub mod SearchTree
 pub mod SearchTreeLaws
 pub mod StandsFor
-pub mod ThreeRecords
 pub mod Total
 pub mod Whole
 pub mod WholeExample

@@ -25,6 +25,3 @@ pub use laws::{
 pub use part::{Listed, Part, Parts, Record, Records};
 pub use path::{Path, code_of, is_right_of, key_of};
 pub use search_core::Core;
-
-#[cfg(test)]
-mod tests;

@@ -24,6 +24,3 @@ pub use job::Job;
 pub use me_terms::Next;
 pub use next_rule::next_step;
 pub use portion::walk_portion;
-
-#[cfg(test)]
-mod tally_tests;

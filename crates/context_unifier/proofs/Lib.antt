@@ -5,11 +5,9 @@ pub mod Beyond
 pub mod Followed
 pub mod FrozenClauses
 pub mod FrozenSolutions
-pub mod OpenSamples
 pub mod Prefixes
 pub mod Produced
 pub mod Remains
-pub mod Samples
 pub mod Steps
 pub mod StepsLeft
 pub mod Undisputed

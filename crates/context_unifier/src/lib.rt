@@ -19,8 +19,3 @@ pub use cursor::Cursor;
 pub use limits::Limits;
 pub use next::next_unifier;
 pub use productive::is_productive;
-
-#[cfg(test)]
-mod productive_tests;
-#[cfg(test)]
-mod tests;

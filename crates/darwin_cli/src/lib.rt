@@ -9,6 +9,3 @@ mod top;
 
 pub use darwin_options::{Options, WordsError, read_words};
 pub use top::{run, run_alone};
-
-#[cfg(test)]
-mod tests;

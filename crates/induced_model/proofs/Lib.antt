@@ -1,2 +1,1 @@
 pub mod Producers
-pub mod Small

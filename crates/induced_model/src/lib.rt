@@ -9,6 +9,3 @@ mod truth;
 
 pub use production::produces;
 pub use truth::{Verdict, truth_of};
-
-#[cfg(test)]
-mod tests;

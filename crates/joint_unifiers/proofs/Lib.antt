@@ -7,4 +7,3 @@ pub mod Fitting
 pub mod Measuring
 pub mod Positions
 pub mod Remaining
-pub mod Samples

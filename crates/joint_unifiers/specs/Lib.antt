@@ -2,4 +2,3 @@ pub mod ClauseUnifiers
 pub mod Contradiction
 pub mod Measured
 pub mod Places
-pub mod Samples

@@ -15,6 +15,3 @@ pub use contradiction::is_contradictory;
 pub use joint::joint_unifier;
 pub use remainder::is_restricted;
 pub use unifier::Unifier;
-
-#[cfg(test)]
-mod tests;

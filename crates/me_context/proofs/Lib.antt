@@ -1,4 +1,3 @@
 pub mod Added
 pub mod Marks
 pub mod Popped
-pub mod Positive

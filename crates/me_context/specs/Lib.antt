@@ -1,3 +1,2 @@
 pub mod Hiding
 pub mod Views
-pub mod Positive

@@ -8,6 +8,3 @@ mod context;
 mod hiding;
 
 pub use context::Context;
-
-#[cfg(test)]
-mod tests;

@@ -81,7 +81,8 @@ impl<T> Sequence<T> {
 }
 
 impl<T: Drop> Sequence<T> {
-    /// Makes room for `n` further items, or changes nothing where memory is out.
+    /// Makes room for `n` further items, or changes nothing where memory is out. An empty list gets room
+    /// for no more than these.
     pub fn reserve(&mut self, n: u64) -> Result<(), AllocError>
         ensures items { self.new.items ≡ self.old.items }
         ensures ok { OnOk result (n ≤ self.new.spare) }
@@ -89,7 +90,11 @@ impl<T: Drop> Sequence<T> {
         ensures succeeds { n ≤ self.old.spare → IsOk result }
         ensures err { OnErr result (self.new ≡ self.old) }
     {
-        self.items.reserve(n as usize)
+        if self.items.is_empty() {
+            self.items.reserve_exact(n as usize)
+        } else {
+            self.items.reserve(n as usize)
+        }
     }
 
     /// Puts an item at the end, or hands it back where memory is out.

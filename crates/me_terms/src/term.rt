@@ -83,7 +83,8 @@ impl Terms {
         self.items.get(k as usize)
     }
 
-    /// Makes room for `n` further terms, or changes nothing where memory is out.
+    /// Makes room for `n` further terms, or changes nothing where memory is out. An empty list gets room
+    /// for no more than these.
     pub fn reserve(&mut self, n: u64) -> Result<(), AllocError>
         ensures items { self.new.items ≡ self.old.items }
         ensures ok { OnOk result (n ≤ self.new.spare) }
@@ -91,7 +92,11 @@ impl Terms {
         ensures succeeds { n ≤ self.old.spare → IsOk result }
         ensures err { OnErr result (self.new ≡ self.old) }
     {
-        self.items.reserve(n as usize)
+        if self.items.is_empty() {
+            self.items.reserve_exact(n as usize)
+        } else {
+            self.items.reserve(n as usize)
+        }
     }
 
     /// Puts a term at the end, or hands it back where memory is out.

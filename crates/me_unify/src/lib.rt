@@ -21,6 +21,3 @@ mod walk;
 
 pub use bindings::Bindings;
 pub use measure::Measure;
-
-#[cfg(test)]
-mod tests;

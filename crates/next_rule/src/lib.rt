@@ -13,6 +13,3 @@ mod split_search;
 mod split_state;
 
 pub use next::next_step;
-
-#[cfg(test)]
-mod tests;

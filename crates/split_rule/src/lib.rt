@@ -9,6 +9,3 @@ mod split;
 
 pub use choice::SplitChoice;
 pub use split::split_of;
-
-#[cfg(test)]
-mod tests;

@@ -17,6 +17,3 @@ pub use error::CnfError;
 pub use laws::{one_cause, one_problem, refused_is_no_file};
 pub use read::read_problem;
 pub use tptp_grammar::{What, Which};
-
-#[cfg(test)]
-mod tests;

@@ -2,6 +2,8 @@
 #![tactic(auto)]
 
 #[cfg(test)]
+mod core_tests;
+#[cfg(test)]
 mod keeper;
 #[cfg(test)]
 mod notes;

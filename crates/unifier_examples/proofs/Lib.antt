@@ -1,0 +1,4 @@
+pub mod Constants
+pub mod OpenAtoms
+pub mod Positive
+pub mod TwoEntries
