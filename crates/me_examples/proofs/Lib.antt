@@ -6,6 +6,7 @@ pub mod FirstRunAnswer
 pub mod GroundLists
 pub mod HiddenCounted
 pub mod HiddenEntry
+pub mod LawfulBounds
 pub mod LeftVariable
 pub mod MergedVariables
 pub mod OneVariable
@@ -18,3 +19,4 @@ pub mod Short
 pub mod SmallAnswers
 pub mod SplitOutcomes
 pub mod TruthOfAtoms
+pub mod ValidProblems

@@ -5,6 +5,7 @@ pub mod FirstRun
 pub mod GroundLists
 pub mod HiddenCounted
 pub mod HiddenEntry
+pub mod LawfulBounds
 pub mod LeftVariable
 pub mod Letters
 pub mod MergedVariables
@@ -16,3 +17,4 @@ pub mod Sharpening
 pub mod SmallAnswers
 pub mod SplitOutcomes
 pub mod TruthOfAtoms
+pub mod ValidProblems

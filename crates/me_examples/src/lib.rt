@@ -10,6 +10,7 @@ ghost use Rattle.me_examples.specs.FirstRun.{FirstRun};
 ghost use Rattle.me_examples.specs.GroundLists.{GroundLists};
 ghost use Rattle.me_examples.specs.HiddenCounted.{HiddenIsCounted};
 ghost use Rattle.me_examples.specs.HiddenEntry.{LaterEntryHides};
+ghost use Rattle.me_examples.specs.LawfulBounds.{LawfulBounds};
 ghost use Rattle.me_examples.specs.LeftVariable.{LeftVariableIsRead};
 ghost use Rattle.me_examples.specs.MergedVariables.{MergedVariablesClose};
 ghost use Rattle.me_examples.specs.OrderOfCandidates.{OrderOfCandidates};
@@ -20,6 +21,7 @@ ghost use Rattle.me_examples.specs.Sharpening.{Sharpening};
 ghost use Rattle.me_examples.specs.SmallAnswers.{SmallAnswers};
 ghost use Rattle.me_examples.specs.SplitOutcomes.{OutcomesAreJoined};
 ghost use Rattle.me_examples.specs.TruthOfAtoms.{TruthOfAtoms};
+ghost use Rattle.me_examples.specs.ValidProblems.{ValidProblems};
 
 /// What the context of ~v, parametric p(a,X0) and universal ~p(X0,b) produces.
 pub fn truth_of_atoms()
@@ -104,4 +106,14 @@ pub fn repeat_is_dropped()
 /// A variable that the unifier leaves is read as c0 in the closing instance.
 pub fn left_variable_is_read()
     ensures { LeftVariableIsRead }
+{}
+
+/// The least and the greatest lawful bounds, and what is beyond them.
+pub fn lawful_bounds()
+    ensures { LawfulBounds }
+{}
+
+/// Valid problems, and a near miss for each condition.
+pub fn valid_problems()
+    ensures { ValidProblems }
 {}
