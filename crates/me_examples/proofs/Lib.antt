@@ -1,13 +1,17 @@
 pub mod AssertThenSplit
+pub mod AtTheBounds
 pub mod BoundByFirstPlace
 pub mod ContradictionCases
+pub mod EitherStart
 pub mod FirstList
 pub mod FirstRunAnswer
+pub mod GeneralityCases
 pub mod GroundLists
 pub mod HiddenCounted
 pub mod HiddenEntry
 pub mod LawfulBounds
 pub mod LeftVariable
+pub mod MeasuredTerms
 pub mod MergedVariables
 pub mod OneVariable
 pub mod OrderOfCandidates

@@ -1,13 +1,17 @@
 pub mod AssertThenSplit
+pub mod AtTheBounds
 pub mod BoundByFirstPlace
 pub mod Contradictions
+pub mod EitherStart
 pub mod FirstRun
+pub mod Generality
 pub mod GroundLists
 pub mod HiddenCounted
 pub mod HiddenEntry
 pub mod LawfulBounds
 pub mod LeftVariable
 pub mod Letters
+pub mod MeasuredTerms
 pub mod MergedVariables
 pub mod OrderOfCandidates
 pub mod ParametricAssert

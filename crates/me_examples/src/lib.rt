@@ -4,14 +4,18 @@
 #![tactic(auto)]
 
 ghost use Rattle.me_examples.specs.AssertThenSplit.{AssertsThenSplits};
+ghost use Rattle.me_examples.specs.AtTheBounds.{AtTheBounds};
 ghost use Rattle.me_examples.specs.BoundByFirstPlace.{BoundByFirstPlace};
 ghost use Rattle.me_examples.specs.Contradictions.{Contradictions};
+ghost use Rattle.me_examples.specs.EitherStart.{EitherStart};
 ghost use Rattle.me_examples.specs.FirstRun.{FirstRun};
+ghost use Rattle.me_examples.specs.Generality.{Generality};
 ghost use Rattle.me_examples.specs.GroundLists.{GroundLists};
 ghost use Rattle.me_examples.specs.HiddenCounted.{HiddenIsCounted};
 ghost use Rattle.me_examples.specs.HiddenEntry.{LaterEntryHides};
 ghost use Rattle.me_examples.specs.LawfulBounds.{LawfulBounds};
 ghost use Rattle.me_examples.specs.LeftVariable.{LeftVariableIsRead};
+ghost use Rattle.me_examples.specs.MeasuredTerms.{MeasuredTerms};
 ghost use Rattle.me_examples.specs.MergedVariables.{MergedVariablesClose};
 ghost use Rattle.me_examples.specs.OrderOfCandidates.{OrderOfCandidates};
 ghost use Rattle.me_examples.specs.ParametricAssert.{AssertsParametric};
@@ -116,4 +120,24 @@ pub fn lawful_bounds()
 /// Valid problems, and a near miss for each condition.
 pub fn valid_problems()
     ensures { ValidProblems }
+{}
+
+/// By default every atom is true from the positive start, and false from the negative one.
+pub fn either_start()
+    ensures { EitherStart }
+{}
+
+/// What terms weigh, how deep they are, and how their variables are numbered and replaced.
+pub fn measured_terms()
+    ensures { MeasuredTerms }
+{}
+
+/// Which atoms are more general than which.
+pub fn generality()
+    ensures { Generality }
+{}
+
+/// What is at a bound is within it.
+pub fn at_the_bounds()
+    ensures { AtTheBounds }
 {}
