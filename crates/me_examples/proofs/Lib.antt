@@ -1,3 +1,4 @@
+pub mod AddedEntries
 pub mod AssertThenSplit
 pub mod AtTheBounds
 pub mod BoundByFirstPlace
@@ -16,6 +17,7 @@ pub mod MergedVariables
 pub mod OneVariable
 pub mod OrderOfCandidates
 pub mod ParametricAssert
+pub mod PlaceCases
 pub mod QueueOrder
 pub mod RepeatedInstance
 pub mod SharpeningCases

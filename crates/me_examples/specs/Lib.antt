@@ -1,3 +1,4 @@
+pub mod AddedEntries
 pub mod AssertThenSplit
 pub mod AtTheBounds
 pub mod BoundByFirstPlace
@@ -15,6 +16,7 @@ pub mod MeasuredTerms
 pub mod MergedVariables
 pub mod OrderOfCandidates
 pub mod ParametricAssert
+pub mod Places
 pub mod QueueOrder
 pub mod RepeatedInstance
 pub mod Sharpening

@@ -3,6 +3,7 @@
 //! They show contexts, what contradicts and hides, an Assert and a Split, and whole answers.
 #![tactic(auto)]
 
+ghost use Rattle.me_examples.specs.AddedEntries.{AddedEntries};
 ghost use Rattle.me_examples.specs.AssertThenSplit.{AssertsThenSplits};
 ghost use Rattle.me_examples.specs.AtTheBounds.{AtTheBounds};
 ghost use Rattle.me_examples.specs.BoundByFirstPlace.{BoundByFirstPlace};
@@ -19,6 +20,7 @@ ghost use Rattle.me_examples.specs.MeasuredTerms.{MeasuredTerms};
 ghost use Rattle.me_examples.specs.MergedVariables.{MergedVariablesClose};
 ghost use Rattle.me_examples.specs.OrderOfCandidates.{OrderOfCandidates};
 ghost use Rattle.me_examples.specs.ParametricAssert.{AssertsParametric};
+ghost use Rattle.me_examples.specs.Places.{Places};
 ghost use Rattle.me_examples.specs.QueueOrder.{QueueOrder};
 ghost use Rattle.me_examples.specs.RepeatedInstance.{RepeatIsDropped};
 ghost use Rattle.me_examples.specs.Sharpening.{Sharpening};
@@ -140,4 +142,14 @@ pub fn generality()
 /// What is at a bound is within it.
 pub fn at_the_bounds()
     ensures { AtTheBounds }
+{}
+
+/// Positions, the remainder and what is asked for, place by place.
+pub fn places()
+    ensures { Places }
+{}
+
+/// The entries that an Assert and a Split add, and their kinds.
+pub fn added_entries()
+    ensures { AddedEntries }
 {}
