@@ -8,6 +8,7 @@ pub mod FirstList
 pub mod FirstRunAnswer
 pub mod GeneralityCases
 pub mod GroundLists
+pub mod GroundTerms
 pub mod HiddenCounted
 pub mod HiddenEntry
 pub mod LawfulBounds

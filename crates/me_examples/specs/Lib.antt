@@ -7,6 +7,7 @@ pub mod EitherStart
 pub mod FirstRun
 pub mod Generality
 pub mod GroundLists
+pub mod GroundTerms
 pub mod HiddenCounted
 pub mod HiddenEntry
 pub mod LawfulBounds

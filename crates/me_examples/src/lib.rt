@@ -12,6 +12,7 @@ ghost use Rattle.me_examples.specs.EitherStart.{EitherStart};
 ghost use Rattle.me_examples.specs.FirstRun.{FirstRun};
 ghost use Rattle.me_examples.specs.Generality.{Generality};
 ghost use Rattle.me_examples.specs.GroundLists.{GroundLists};
+ghost use Rattle.me_examples.specs.GroundTerms.{GroundTerms};
 ghost use Rattle.me_examples.specs.HiddenCounted.{HiddenIsCounted};
 ghost use Rattle.me_examples.specs.HiddenEntry.{LaterEntryHides};
 ghost use Rattle.me_examples.specs.LawfulBounds.{LawfulBounds};
@@ -152,4 +153,9 @@ pub fn places()
 /// The entries that an Assert and a Split add, and their kinds.
 pub fn added_entries()
     ensures { AddedEntries }
+{}
+
+/// Which terms are ground over a problem, and ground instances of a clause of two variables.
+pub fn ground_terms()
+    ensures { GroundTerms }
 {}
