@@ -3,8 +3,9 @@ use Rattle.std.proofs.Common.{false, refl, arith}
 use Rattle.me_examples.specs.FirstRun.{clause_p, clause_not_p, names, usual_bounds, first_list, FirstRun}
 use Rattle.me_examples.specs.FirstRun.{first_run as problem}
 use Rattle.me_terms.specs.Validity.{IsValidClause, IsValid}
+use Rattle.me_terms.specs.Grown.{started, asserted}
 use Rattle.me_terms.specs.Labels.{IsFunctionSymbol, IsPredicateSymbol}
-use Rattle.me_examples.proofs.FirstRunAnswer.{first_run_refuted}
+use Rattle.me_examples.proofs.FirstRunAnswer.{first_step, first_run_refuted}
 use Rattle.me_laws.proofs.Lists.{all_of}
 use Rattle.me_refutation.proofs.Answered.{unsatisfiable_refuted}
 
@@ -26,6 +27,8 @@ first_valid = record {
 pub first_run : FirstRun
 first_run = record {
   valid = first_valid;
+  grown = λ positive. started;
+  grown_after = asserted started first_step;
   reply = first_run_refuted;
   refuted = (unsatisfiable_refuted problem usual_bounds false first_list first_valid first_run_refuted).0.refuted;
 }

@@ -80,7 +80,7 @@ weighs e e' n h g = let same = ap (λ (x : EntryValue). pattern_weight x.atom) h
 least_assert : IsLeastAssert first_run usual_bounds (start false) entry_p
 least_assert = (0, 0, [], asserts_p, λ c place tuple e h. smallest (kind_rank e.kind) (pattern_weight e.atom) c place tuple (weighs e _ _ h.entry refl))
 
-first_step : IsNext first_run usual_bounds (start false) (Assert entry_p)
+pub first_step : IsNext first_run usual_bounds (start false) (Assert entry_p)
 first_step = (nothing_closes, omega arith, least_assert)
 
 -- ---- the second step

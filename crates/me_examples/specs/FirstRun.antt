@@ -1,11 +1,11 @@
 -- The clauses p and ~p: p is asserted, and ~p closes.
-use Rattle.std.specs.Prelude.{true, false, List, [], ◌∷◌}
+use Rattle.std.specs.Prelude.{Bool, true, false, List, [], ◌∷◌}
 use Rattle.me_terms.specs.Terms.{Nil, AtomValue}
 use Rattle.me_terms.specs.Values.{SignatureValue, ClauseValue, ProblemValue, InstanceValue, EntryValue, Asserted}
 use Rattle.me_terms.specs.Validity.{IsValid}
 use Rattle.me_terms.specs.Refuted.{IsRefuted}
 use Rattle.me_terms.specs.Context.{Context, add}
-use Rattle.me_terms.specs.Grown.{start}
+use Rattle.me_terms.specs.Grown.{start, IsGrown}
 use Rattle.me_terms.specs.Answer.{HasAnswer, Unsatisfiable}
 use Rattle.me_terms.specs.declared.bounds.Bounds.{Bounds}
 use Rattle.me_terms.specs.declared.symbol.Form.TheVariants.{Word}
@@ -49,8 +49,10 @@ after = add (start false) entry_p
 abbrev pub first_list : List InstanceValue
 first_list = record { clause = 1; literals = negative_p ∷ [] } ∷ record { clause = 0; literals = positive_p ∷ [] } ∷ []
 
--- p and ~p are unsatisfiable by their only instances: the problem is valid, the answer is the list of these two, and no choice of truth values makes both true.
+-- p and ~p are unsatisfiable by their only instances: the problem is valid, the answer is the list of these two, and no choice of truth values makes both true. The context in which the search begins is grown, and so is that with p.
 pub record FirstRun : Type 0 where
   pub valid : IsValid first_run
+  pub grown : (positive : Bool) → IsGrown first_run usual_bounds positive (start positive)
+  pub grown_after : IsGrown first_run usual_bounds false after
   pub reply : HasAnswer first_run usual_bounds false (Unsatisfiable first_list)
   pub refuted : IsRefuted first_list
