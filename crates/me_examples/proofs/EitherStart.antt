@@ -1,5 +1,5 @@
 -- What the two contexts in which a search can begin make true.
-use Rattle.std.proofs.Common.{◌≡◌, Bool, true, false, ◌⊎◌, inl, inr, refl, arith}
+use Rattle.std.proofs.Common.{◌≡◌, Bool, true, false, ◌⊎◌, inl, inr, refl}
 use Rattle.me_terms.specs.Substitutions.{IsStrictlyMoreGeneral}
 use Rattle.me_terms.specs.Context.{pseudo}
 use Rattle.me_terms.specs.Produces.{HasException, Produces, IsInduced}

@@ -1,12 +1,12 @@
 -- Which terms are ground over a problem, and which lists are ground instances.
 use Rattle.std.proofs.Common.{◌≡◌, ℕ, zero, suc, true, false, List, [], ◌∷◌, map, length, refl, sym, subst, ap, ◌∙◌, arith}
 use Rattle.std.proofs.lemmas.Option.{same_Some}
-use Rattle.me_terms.specs.Terms.{TermValue, Arguments, Nil, Cons}
+use Rattle.me_terms.specs.Terms.{TermValue, Arguments, Nil}
 use Rattle.me_terms.specs.Substitutions.{apply_literal}
 use Rattle.me_terms.specs.Values.{ClauseValue}
 use Rattle.me_terms.specs.GroundInstances.{is_ground_term, IsGroundInstance}
 use Rattle.me_terms.specs.declared.atom.Literal.{Literal}
-use Rattle.me_examples.specs.Letters.{a, x0, x1, p, literal}
+use Rattle.me_examples.specs.Letters.{x0, x1, p, literal}
 use Rattle.me_examples.specs.SmallAnswers.{clause_of}
 use Rattle.me_examples.specs.ValidProblems.{alone}
 use Rattle.me_examples.specs.GroundTerms.{one_pair, constant, GroundTerms}

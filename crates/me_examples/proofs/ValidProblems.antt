@@ -2,15 +2,15 @@
 use Rattle.std.proofs.Common.{◌≡◌, ℕ, zero, suc, ◌-◌, ◌^◌, ◌<◌, true, false, List, [], ◌∷◌, ◌++◌, length, replicate, refl, subst, sym, arith}
 use Rattle.std.specs.List.{list_all}
 use Rattle.std.proofs.lemmas.List.{length-replicate}
-use Rattle.me_terms.specs.Values.{SymbolValue, ClauseValue}
+use Rattle.me_terms.specs.Values.{ClauseValue}
 use Rattle.me_terms.specs.Signatures.{is_known_atom}
 use Rattle.me_terms.specs.Variables.{is_numbered_from}
-use Rattle.me_terms.specs.Labels.{IsClauseLabel, IsFunctionSymbol, IsPredicateSymbol}
+use Rattle.me_terms.specs.Labels.{IsFunctionSymbol, IsPredicateSymbol}
 use Rattle.me_terms.specs.Validity.{clause_variables, IsValidClause, IsValid}
-use Rattle.me_terms.specs.declared.symbol.Form.TheVariants.{Word, Distinct, Number}
+use Rattle.me_terms.specs.declared.symbol.Form.TheVariants.{Distinct, Number}
 use Rattle.me_terms.specs.declared.atom.Literal.{Literal}
 use Rattle.me_laws.proofs.Lists.{EachOf, all_of, all_at}
-use Rattle.me_examples.specs.Letters.{x0, x1, p_of, q_of, literal, word}
+use Rattle.me_examples.specs.Letters.{x0, x1, p_of, q_of, literal}
 use Rattle.me_examples.specs.SmallAnswers.{clause_of}
 use Rattle.me_examples.specs.ValidProblems.{digit, symbol, functions, predicates, problem_of, one_clause, alone, of_one, bare, named, ValidProblems}
 

@@ -1,6 +1,6 @@
 -- The entries that an Assert and a Split add, and their kinds.
 use Rattle.std.specs.Prelude.{◌≡◌, Bool, true, false, [], ◌∷◌, Some, None}
-use Rattle.me_terms.specs.Values.{EntryValue, Asserted, SplitLeft, SplitRight}
+use Rattle.me_terms.specs.Values.{Asserted, SplitLeft, SplitRight}
 use Rattle.me_terms.specs.Context.{Context, pseudo, add}
 use Rattle.me_terms.specs.Assert.{asserted_kind, asserted_entry}
 use Rattle.me_terms.specs.Split.{split_kind}

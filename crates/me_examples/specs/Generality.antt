@@ -1,6 +1,5 @@
 -- Which atoms are more general than which.
 use Rattle.me_terms.specs.Substitutions.{Generalizes, IsVariant, IsStrictlyMoreGeneral}
-use Rattle.me_terms.specs.declared.atom.Pattern.{Pattern}
 use Rattle.me_terms.specs.declared.atom.Pattern.TheVariants.{Any, Of}
 use Rattle.me_terms.specs.Terms.{AtomValue}
 use Rattle.me_examples.specs.Letters.{a, b, x0, x1, p, p_of, q_of}

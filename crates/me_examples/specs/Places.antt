@@ -1,5 +1,5 @@
 -- What stands at the places of a clause: positions, what is left in the remainder, and what an instance asks for.
-use Rattle.std.specs.Prelude.{◌≡◌, eqb, true, false, List, [], ◌∷◌, Some, None, if◌then◌else◌}
+use Rattle.std.specs.Prelude.{◌≡◌, eqb, true, false, [], ◌∷◌, Some, None, if◌then◌else◌}
 use Rattle.me_terms.specs.Terms.{Var}
 use Rattle.me_terms.specs.Substitutions.{Family}
 use Rattle.me_terms.specs.Values.{EntryValue, SplitLeft}

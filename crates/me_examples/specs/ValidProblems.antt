@@ -1,10 +1,10 @@
 -- Which problems are valid.
 use Rattle.std.specs.Prelude.{ℕ, ◌-◌, ◌^◌, ◌<◌, true, false, List, [], ◌∷◌, ◌++◌, replicate}
 use Rattle.me_terms.specs.Terms.{TermValue, App, Nil, Cons, AtomValue}
-use Rattle.me_terms.specs.Values.{LabelValue, SymbolValue, SignatureValue, ClauseValue, ProblemValue}
+use Rattle.me_terms.specs.Values.{LabelValue, SymbolValue, ClauseValue, ProblemValue}
 use Rattle.me_terms.specs.Validity.{IsValid}
 use Rattle.me_terms.specs.declared.symbol.Form.{Form}
-use Rattle.me_terms.specs.declared.symbol.Form.TheVariants.{Word, Distinct, Number}
+use Rattle.me_terms.specs.declared.symbol.Form.TheVariants.{Distinct, Number}
 use Rattle.me_terms.specs.declared.atom.Literal.{Literal}
 use Rattle.me_examples.specs.Letters.{x0, x1, p_of, q_of, literal, word}
 use Rattle.me_examples.specs.SmallAnswers.{clause_of}
