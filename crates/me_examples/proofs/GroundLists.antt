@@ -42,7 +42,7 @@ all_false value [] h = h
 all_false value (i ∷ list) (inl h) = inl (all_of (IsFalseUnder value) i.literals h)
 all_false value (i ∷ list) (inr h) = inr (all_false value list h)
 
-some_at : {A : Type 0} (P : A → Type 0) (xs : List A) (k : ℕ) (y : A) → k < length xs → get_or xs k y ≡ y → P y → SomeOf P xs
+pub some_at : {A : Type 0} (P : A → Type 0) (xs : List A) (k : ℕ) (y : A) → k < length xs → get_or xs k y ≡ y → P y → SomeOf P xs
 some_at P [] k y lt at h = absurd (omega (arith, lt))
 some_at P (x ∷ xs) zero y lt at h = inl (subst P (sym at) h)
 some_at P (x ∷ xs) (suc k) y lt at h = inr (some_at P xs k y (omega (arith, lt)) at h)

@@ -15,6 +15,7 @@ pub mod LawfulBounds
 pub mod LeftVariable
 pub mod MeasuredTerms
 pub mod MergedVariables
+pub mod ModelCases
 pub mod OneVariable
 pub mod OrderOfCandidates
 pub mod ParametricAssert

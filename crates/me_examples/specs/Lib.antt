@@ -15,6 +15,7 @@ pub mod LeftVariable
 pub mod Letters
 pub mod MeasuredTerms
 pub mod MergedVariables
+pub mod Models
 pub mod OrderOfCandidates
 pub mod ParametricAssert
 pub mod Places

@@ -19,6 +19,7 @@ ghost use Rattle.me_examples.specs.LawfulBounds.{LawfulBounds};
 ghost use Rattle.me_examples.specs.LeftVariable.{LeftVariableIsRead};
 ghost use Rattle.me_examples.specs.MeasuredTerms.{MeasuredTerms};
 ghost use Rattle.me_examples.specs.MergedVariables.{MergedVariablesClose};
+ghost use Rattle.me_examples.specs.Models.{Models};
 ghost use Rattle.me_examples.specs.OrderOfCandidates.{OrderOfCandidates};
 ghost use Rattle.me_examples.specs.ParametricAssert.{AssertsParametric};
 ghost use Rattle.me_examples.specs.Places.{Places};
@@ -158,4 +159,9 @@ pub fn added_entries()
 /// Which terms are ground over a problem, and ground instances of a clause of two variables.
 pub fn ground_terms()
     ensures { GroundTerms }
+{}
+
+/// In which contexts clauses are true.
+pub fn models()
+    ensures { Models }
 {}
