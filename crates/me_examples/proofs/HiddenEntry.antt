@@ -18,6 +18,7 @@ pub later_entry_hides : LaterEntryHides
 unfolding first_then
 later_entry_hides = record {
   hidden = (2, entry true (p x0 x1) Universal SplitLeft, record { is_later = omega arith; stands = refl; universal = refl; same_sign = refl; generalizes = (first_then a x0, refl) });
+  by_a_variant = (2, entry true (p a x1) Universal SplitLeft, record { is_later = omega arith; stands = refl; universal = refl; same_sign = refl; generalizes = (λ x. x0, refl) });
   other_sign = seen (followed false (p x0 x1) Universal) 1 earlier refl ((λ lt u s g. absurd (omega (arith, lt))), ((λ lt u s g. cc u), ((λ lt u s g. cc s), tt)));
   other_kind = seen (followed true (p x0 x1) Parametric) 1 earlier refl ((λ lt u s g. absurd (omega (arith, lt))), ((λ lt u s g. cc u), ((λ lt u s g. cc u), tt)));
   less_general = seen (followed true (p a a) Universal) 1 earlier refl ((λ lt u s g. absurd (omega (arith, lt))), ((λ lt u s g. cc u), ((λ lt u s g. no_instance (p a a) (p a x0) refl g), tt)));

@@ -2,8 +2,10 @@ pub mod AddedEntries
 pub mod AssertThenSplit
 pub mod AtTheBounds
 pub mod BoundByFirstPlace
+pub mod ContextCases
 pub mod ContradictionCases
 pub mod EitherStart
+pub mod ExceptionCases
 pub mod FirstList
 pub mod FirstRunAnswer
 pub mod GeneralityCases
@@ -26,5 +28,6 @@ pub mod SharpeningCases
 pub mod Short
 pub mod SmallAnswers
 pub mod SplitOutcomes
+pub mod SubsumptionCases
 pub mod TruthOfAtoms
 pub mod ValidProblems

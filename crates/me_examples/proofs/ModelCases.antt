@@ -11,7 +11,6 @@ use Rattle.me_terms.specs.declared.atom.Literal.{Literal}
 use Rattle.me_laws.proofs.Lists.{any_of}
 use Rattle.me_examples.specs.Letters.{a, x0, p_of, q_of, literal}
 use Rattle.me_examples.specs.SmallAnswers.{clause_of}
-use Rattle.me_examples.specs.LeftVariable.{p_and_not_p}
 use Rattle.me_examples.specs.Models.{q_implies_p, Models}
 use Rattle.me_examples.proofs.GroundLists.{some_at}
 use Rattle.me_examples.proofs.EitherStart.{induced, not_induced}

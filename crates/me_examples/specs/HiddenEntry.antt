@@ -14,9 +14,10 @@ earlier = entry true (p a x0) Parametric SplitLeft
 abbrev pub followed : Bool → AtomValue → Kind → Context
 followed positive atom kind = pseudo false ∷ earlier ∷ entry positive atom kind SplitLeft ∷ []
 
--- A later Universal entry of the same sign hides what it generalizes; the other sign, the other kind, and a less general atom do not. An earlier entry hides nothing.
+-- A later Universal entry of the same sign hides what it generalizes, a variant too; the other sign, the other kind, and a less general atom do not. An earlier entry hides nothing.
 pub record LaterEntryHides : Type 0 where
   pub hidden : IsHidden (followed true (p x0 x1) Universal) 1 earlier
+  pub by_a_variant : IsHidden (followed true (p a x1) Universal) 1 earlier
   pub other_sign : IsVisible (followed false (p x0 x1) Universal) 1 earlier
   pub other_kind : IsVisible (followed true (p x0 x1) Parametric) 1 earlier
   pub less_general : IsVisible (followed true (p a a) Universal) 1 earlier

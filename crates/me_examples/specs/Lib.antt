@@ -2,8 +2,10 @@ pub mod AddedEntries
 pub mod AssertThenSplit
 pub mod AtTheBounds
 pub mod BoundByFirstPlace
+pub mod Contexts
 pub mod Contradictions
 pub mod EitherStart
+pub mod Exceptions
 pub mod FirstRun
 pub mod Generality
 pub mod GroundLists
@@ -24,5 +26,6 @@ pub mod RepeatedInstance
 pub mod Sharpening
 pub mod SmallAnswers
 pub mod SplitOutcomes
+pub mod Subsumption
 pub mod TruthOfAtoms
 pub mod ValidProblems

@@ -7,8 +7,10 @@ ghost use Rattle.me_examples.specs.AddedEntries.{AddedEntries};
 ghost use Rattle.me_examples.specs.AssertThenSplit.{AssertsThenSplits};
 ghost use Rattle.me_examples.specs.AtTheBounds.{AtTheBounds};
 ghost use Rattle.me_examples.specs.BoundByFirstPlace.{BoundByFirstPlace};
+ghost use Rattle.me_examples.specs.Contexts.{Contexts};
 ghost use Rattle.me_examples.specs.Contradictions.{Contradictions};
 ghost use Rattle.me_examples.specs.EitherStart.{EitherStart};
+ghost use Rattle.me_examples.specs.Exceptions.{Exceptions};
 ghost use Rattle.me_examples.specs.FirstRun.{FirstRun};
 ghost use Rattle.me_examples.specs.Generality.{Generality};
 ghost use Rattle.me_examples.specs.GroundLists.{GroundLists};
@@ -28,6 +30,7 @@ ghost use Rattle.me_examples.specs.RepeatedInstance.{RepeatIsDropped};
 ghost use Rattle.me_examples.specs.Sharpening.{Sharpening};
 ghost use Rattle.me_examples.specs.SmallAnswers.{SmallAnswers};
 ghost use Rattle.me_examples.specs.SplitOutcomes.{OutcomesAreJoined};
+ghost use Rattle.me_examples.specs.Subsumption.{Subsumption};
 ghost use Rattle.me_examples.specs.TruthOfAtoms.{TruthOfAtoms};
 ghost use Rattle.me_examples.specs.ValidProblems.{ValidProblems};
 
@@ -164,4 +167,19 @@ pub fn ground_terms()
 /// In which contexts clauses are true.
 pub fn models()
     ensures { Models }
+{}
+
+/// Which lists of entries are contexts, and which contexts are consistent.
+pub fn contexts()
+    ensures { Contexts }
+{}
+
+/// The exceptions of Parametric entries, of either sign and kind.
+pub fn exceptions()
+    ensures { Exceptions }
+{}
+
+/// What may be asserted beside a more general or a more special entry.
+pub fn subsumption()
+    ensures { Subsumption }
 {}
