@@ -114,6 +114,19 @@ splits_p = record {
   fits = (omega arith, omega arith);
 }
 
+splits_q : IsSplit problem bounds four_asserted 0 1 (0 ∷ 0 ∷ []) 2 (literal true (q_of x0))
+splits_q = record {
+  clause = p_or_q;
+  literal = literal true (q_of x0);
+  family = apart;
+  productive = both_pseudo;
+  literal_at = refl;
+  remains = (1, omega arith, refl);
+  size_of = refl;
+  split_literal = refl;
+  fits = (omega arith, omega arith);
+}
+
 -- ---- the left branch
 left_is_context : IsContext left_context
 left_is_context = record {
@@ -152,6 +165,7 @@ pub asserts_then_splits : AssertsThenSplits
 asserts_then_splits = record {
   asserts_q = asserts_q;
   splits_p = splits_p;
+  splits_q = splits_q;
   split_parametric = refl;
   context = left_is_context;
   p_false_of_a = record { visible = visible_1; same_sign = refl; generalizes = (λ x. a, refl); undisputed = inl refl };

@@ -21,6 +21,7 @@ pub mod ModelCases
 pub mod OneVariable
 pub mod OrderOfCandidates
 pub mod ParametricAssert
+pub mod PartialRemainder
 pub mod PlaceCases
 pub mod QueueOrder
 pub mod RepeatedInstance

@@ -55,10 +55,11 @@ four_asserted = pseudo false ∷ no_p ∷ yes_q ∷ no_q ∷ yes_p ∷ []
 abbrev pub left_context : Context
 left_context = add four_asserted split_p
 
--- With ~p(a) the first clause asserts q(a). With all four, p(X0) is split on, against the pseudo-literal at both places. In the left branch p is false of a alone, and q is true of a alone.
+-- With ~p(a) the first clause asserts q(a). With all four, p(X0) or q(X0) may be split on, against the pseudo-literal at both places. In the left branch p is false of a alone, and q is true of a alone.
 pub record AssertsThenSplits : Type 0 where
   pub asserts_q : IsAssert problem bounds first_context 0 1 (1 ∷ []) yes_q
   pub splits_p : IsSplit problem bounds four_asserted 0 0 (0 ∷ 0 ∷ []) 2 (literal true (p_of x0))
+  pub splits_q : IsSplit problem bounds four_asserted 0 1 (0 ∷ 0 ∷ []) 2 (literal true (q_of x0))
   pub split_parametric : split_kind (literal true (p_of x0)) ≡ Parametric
   pub context : IsContext left_context
   pub p_false_of_a : Produces left_context 1 no_p (literal false (p_of a))

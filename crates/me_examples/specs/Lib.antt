@@ -20,6 +20,7 @@ pub mod MergedVariables
 pub mod Models
 pub mod OrderOfCandidates
 pub mod ParametricAssert
+pub mod PartialRemainder
 pub mod Places
 pub mod QueueOrder
 pub mod RepeatedInstance

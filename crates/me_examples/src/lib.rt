@@ -24,6 +24,7 @@ ghost use Rattle.me_examples.specs.MergedVariables.{MergedVariablesClose};
 ghost use Rattle.me_examples.specs.Models.{Models};
 ghost use Rattle.me_examples.specs.OrderOfCandidates.{OrderOfCandidates};
 ghost use Rattle.me_examples.specs.ParametricAssert.{AssertsParametric};
+ghost use Rattle.me_examples.specs.PartialRemainder.{PartialRemainder};
 ghost use Rattle.me_examples.specs.Places.{Places};
 ghost use Rattle.me_examples.specs.QueueOrder.{QueueOrder};
 ghost use Rattle.me_examples.specs.RepeatedInstance.{RepeatIsDropped};
@@ -182,4 +183,9 @@ pub fn exceptions()
 /// What may be asserted beside a more general or a more special entry.
 pub fn subsumption()
     ensures { Subsumption }
+{}
+
+/// A remainder that leaves a place out.
+pub fn partial_remainder()
+    ensures { PartialRemainder }
 {}
