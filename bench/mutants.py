@@ -17,7 +17,9 @@ import shutil
 import subprocess
 import sys
 
-from changes import CHANGES
+# (no folder is left beside this file)
+sys.dont_write_bytecode = True
+from changes import CHANGES  # noqa: E402
 
 # The examples are checked over all these, which are read as source, in one run that checks again only what a change reaches.
 BELOW = ["me_terms", "me_laws", "me_refutation", "me_counting", "me_existence"]

@@ -1,5 +1,5 @@
 -- The clause ~p(X)|q(X) beside the universal p(X0), with the pseudo-literal against q(X).
-use Rattle.std.proofs.Common.{◌≡◌, ℕ, zero, suc, ◌<◌, true, false, ◌⊎◌, inl, inr, [], ◌∷◌, get_or, Some, None, refl, sym, ap, ◌∙◌, arith}
+use Rattle.std.proofs.Common.{◌≡◌, ℕ, zero, suc, ◌<◌, true, false, ◌⊎◌, inl, inr, [], ◌∷◌, get_or, None, refl, ap, ◌∙◌, arith}
 use Rattle.me_terms.specs.Terms.{AtomValue}
 use Rattle.me_terms.specs.Substitutions.{IsStrictlyMoreGeneral, Generalizes}
 use Rattle.me_terms.specs.Context.{pseudo, IsVisible}
@@ -14,7 +14,7 @@ use Rattle.me_examples.specs.SmallAnswers.{clause_of}
 use Rattle.me_examples.specs.Sharpening.{beside, universal_p}
 use Rattle.me_examples.specs.ParametricAssert.{p_implies_q}
 use Rattle.me_examples.specs.PartialRemainder.{PartialRemainder}
-use Rattle.me_examples.proofs.Short.{each_entry, seen, no_instance, opposite_by, solves_by, productive_by}
+use Rattle.me_examples.proofs.Short.{each_entry, seen, opposite_by, solves_by, productive_by}
 use Rattle.me_examples.proofs.MergedVariables.{reading}
 use Rattle.me_examples.proofs.OneVariable.{one_variable, one_variable_general, only_argument}
 use Rattle.me_examples.proofs.SharpeningCases.{last_visible}
