@@ -14,7 +14,7 @@ use thiserror::Error;
 pub const MAX_BYTES: usize = 67_108_864;
 
 /// The bytes that are asked for in one call.
-const BUFFER_BYTES: usize = 4096;
+const BUFFER_BYTES: usize = 65_536;
 
 /// Where bytes come from.
 pub trait Source {

@@ -1,19 +1,17 @@
 -- Bytes mean at most one problem, or are refused at one place for one cause.
-use Rattle.std.proofs.Common.{◌≡◌, ℕ, ◌+◌, List, [], ◌∷◌, ◌++◌, length, refl, sym, ap, subst, ◌∙◌, ◌⊎◌, inl, inr, append_assoc, arith}
-use Rattle.std.proofs.lemmas.List.{append-nil, map-append, length-append}
+use Rattle.std.proofs.Common.{◌≡◌, ℕ, List, [], ◌∷◌, ◌++◌, length, refl, sym, ap, subst, ◌∙◌, ◌⊎◌, inl, inr, append_assoc, arith}
+use Rattle.std.proofs.lemmas.List.{map-append}
 use Rattle.me_terms.specs.Values.{ProblemValue}
 use Rattle.tptp_tokens.specs.Gaps.{IsGap}
 use Rattle.tptp_tokens.specs.Remainders.{Remainder}
 use Rattle.tptp_tokens.specs.Tokens.{PlacedToken, IsNext, IsCutFrom, IsCut}
 use Rattle.tptp_tokens.proofs.OneCut.{one_gap, first_takes, one_next, one_cut_from}
 use Rattle.tptp_grammar.specs.Terminals.{Terminal, terminal, terminals}
-use Rattle.tptp_grammar.specs.Written.{WrittenFormula}
 use Rattle.tptp_grammar.specs.Files as grammar
 use Rattle.tptp_grammar.specs.Refusals.{IsCutShort}
 use Rattle.tptp_grammar.specs.declared.refusal.Refusal.{Refusal}
 use Rattle.tptp_grammar.specs.declared.refusal.Refusal.TheVariants as refusal
 use Rattle.tptp_grammar.proofs.Unique as unique
-use Rattle.tptp_cnf.specs.Meaning.{problem_of}
 use Rattle.tptp_cnf.specs.Files.{IsFile}
 use Rattle.tptp_cnf.specs.Causes.{BeginsWith, IsRefusedToken, EndsEarly, RefusedAt}
 use Rattle.tptp_cnf.proofs.Reached.{all_of, front_more, read_is}

@@ -1,16 +1,16 @@
 -- The draft behind all tokens of a file is what the file means.
-use Rattle.std.proofs.Common.{◌≡◌, ℕ, ◌+◌, Bool, true, false, ◌||◌, List, [], ◌∷◌, ◌++◌, map, refl, sym, ap, subst, ◌∙◌, append_assoc}
+use Rattle.std.proofs.Common.{◌≡◌, ℕ, ◌+◌, Bool, true, false, List, [], ◌∷◌, ◌++◌, refl, sym, ap, subst, ◌∙◌, append_assoc}
 use Rattle.std.proofs.lemmas.List.{append-nil}
 use Rattle.std.specs.Prelude.{if◌then◌else◌}
-use Rattle.std.specs.List.{list_any, position_or_len, flat_map}
+use Rattle.std.specs.List.{list_any, position_or_len}
 use Rattle.me_terms.specs.Values.{SymbolValue, SignatureValue, ClauseValue, ProblemValue}
 use Rattle.me_terms.specs.declared.atom.Literal.{Literal}
 use Rattle.tptp_grammar.specs.Written.{WrittenFormula}
 use Rattle.tptp_grammar.specs.Limits.{with_variables}
-use Rattle.tptp_cnf.specs.Meaning.{label_of, is_true, literals_of, is_left_out, literals_predicates, literals_functions, literals_variables, file_predicates, file_functions, with_symbols, clause_literals, variables_of, clause_of, clauses_of, is_constant, c0_symbol, with_constant, problem_of}
-use Rattle.tptp_cnf.specs.Rows.{ItemValue, Names, names_of, signature_of, names_after, numbered, node_in, built, Built, Draft, empty_draft, with_clause, ended, feeds, finished}
+use Rattle.tptp_cnf.specs.Meaning.{label_of, literals_of, is_left_out, literals_predicates, literals_functions, file_predicates, file_functions, with_symbols, clause_literals, variables_of, clause_of, clauses_of, is_constant, c0_symbol, with_constant, problem_of}
+use Rattle.tptp_cnf.specs.Rows.{ItemValue, Names, names_of, signature_of, names_after, numbered, built, Built, Draft, empty_draft, ended, finished}
 use Rattle.tptp_cnf.specs.declared.item.Node.{Node}
-use Rattle.tptp_cnf.proofs.Fed.{flat_literals, read_formula, after_formula, after_file}
+use Rattle.tptp_cnf.proofs.Fed.{flat_literals, after_formula, after_file}
 use Rattle.tptp_cnf.proofs.Numbering.{Longer, longer_same, longer_on, symbol_longer, Within, numbered_is, symbols-append, after_functions, after_predicates, after_variables}
 use Rattle.tptp_cnf.proofs.Trees.{functions_of_literals, predicates_of_literals, variables_of_literals, literals_built}
 

@@ -1,5 +1,5 @@
 -- The look-up of symbols by the bytes of their tokens, as symbols come.
-use Rattle.std.proofs.Common.{◌≡◌, ℕ, Bool, true, false, ◌||◌, List, [], ◌∷◌, ◌++◌, Option, Some, None, Bor, refl, sym, ap, subst, ◌∙◌}
+use Rattle.std.proofs.Common.{◌≡◌, ℕ, Bool, true, false, ◌||◌, List, [], ◌∷◌, ◌++◌, Some, refl, sym, ap, subst, ◌∙◌}
 use Rattle.std.proofs.lemmas.Slice.Eq.{bytes_eq-Decides}
 use Rattle.std.specs.Prelude.{if◌then◌else◌}
 use Rattle.std.specs.List.{list_any}
@@ -12,6 +12,7 @@ use Rattle.tptp_cnf.specs.Views.{item_value}
 use Rattle.tptp_cnf.specs.Lookup.{Entries, met_at, symbol_by, IsNumber, AreMet, IsNoted}
 use Rattle.tptp_cnf.specs.declared.item.Item.{Item}
 use Rattle.tptp_cnf.specs.declared.symbols.Met.{Met}
+use Rattle.tptp_cnf.specs.declared.symbols.Name.{Name}
 use Rattle.tptp_cnf.proofs.Numbering.{Longer, position_stays, symbol_has, symbol_longer}
 
 -- ---- numbers
@@ -39,26 +40,21 @@ added_number known new s n e h = (ap (list_any (same_symbol s)) e ∙ symbol_has
 -- ---- the look-up
 
 pub none_met : (symbols : List SymbolValue) (entries : Entries) → entries ≡ [] → AreMet symbols entries
-none_met symbols entries e text m h = let z : met_at [] text ≡ Some m = ap (λ (x : Entries). met_at x text) (sym e) ∙ h in cc
+none_met symbols entries e name m h = let z : met_at [] name ≡ Some m = ap (λ (x : Entries). met_at x name) (sym e) ∙ h in cc
 
 -- more symbols change no number
 pub still_met : (known new : List SymbolValue) (s : SymbolValue) (entries : Entries) → new ≡ with_symbol known s → AreMet known entries → AreMet new entries
-still_met known new s entries e q text m h =
-    subst (λ (x : List SymbolValue). IsNumber x (symbol_by m.kind text.now m.arity) m.number) (sym e) (stays known (with_symbol known s) (symbol_longer known s) _ _ (q text m h))
+still_met known new s entries e q name m h =
+    subst (λ (x : List SymbolValue). IsNumber x (symbol_by m.kind name.bytes.now m.arity) m.number) (sym e) (stays known (with_symbol known s) (symbol_longer known s) _ _ (q name m h))
 
-pub found_number : (entries : Entries) (i : Item) (m : Met) → met_at entries i.name.text ≡ Some m → m.kind ≡ i.name.kind → m.arity ≡ i.arity → (symbols : List SymbolValue) → AreMet symbols entries
-    → IsNumber symbols (symbol_as (item_value i)) m.number
-found_number entries i m e k a symbols q =
-    subst (λ x. IsNumber symbols (symbol_by x i.name.text.now i.arity) m.number) k (subst (λ x. IsNumber symbols (symbol_by m.kind i.name.text.now x) m.number) a (q i.name.text m e))
-
-noted_as : (symbols : List SymbolValue) (old : Entries) (i : Item) (number : ℕ) (text : Bor (List ℕ)) (m : Met) (b : Bool) → AreMet symbols old → IsNumber symbols (symbol_as (item_value i)) number → bytes_eq i.name.text.now text.now ≡ b
-    → (if b then Some (record { kind = i.name.kind; arity = i.arity; number = number }) else met_at old text) ≡ Some m → IsNumber symbols (symbol_by m.kind text.now m.arity) m.number
-noted_as symbols old i number text m true q is e h =
+noted_as : (symbols : List SymbolValue) (old : Entries) (i : Item) (number : ℕ) (name : Name) (m : Met) (b : Bool) → AreMet symbols old → IsNumber symbols (symbol_as (item_value i)) number → bytes_eq i.name.text.now name.bytes.now ≡ b
+    → (if b then Some (record { kind = i.name.kind; arity = i.arity; number = number }) else met_at old name) ≡ Some m → IsNumber symbols (symbol_by m.kind name.bytes.now m.arity) m.number
+noted_as symbols old i number name m true q is e h =
     let last : Met = record { kind = i.name.kind; arity = i.arity; number = number } in
     let same : last ≡ m = cc in
-    let bytes : i.name.text.now ≡ text.now = (bytes_eq-Decides i.name.text.now text.now).0 e in
-    subst (λ (x : Met). IsNumber symbols (symbol_by x.kind text.now x.arity) x.number) same (subst (λ (x : List ℕ). IsNumber symbols (symbol_by i.name.kind x i.arity) number) bytes is)
-noted_as symbols old i number text m false q is e h = q text m h
+    let bytes : i.name.text.now ≡ name.bytes.now = (bytes_eq-Decides i.name.text.now name.bytes.now).0 e in
+    subst (λ (x : Met). IsNumber symbols (symbol_by x.kind name.bytes.now x.arity) x.number) same (subst (λ (x : List ℕ). IsNumber symbols (symbol_by i.name.kind x i.arity) number) bytes is)
+noted_as symbols old i number name m false q is e h = q name m h
 
 pub noted : (symbols : List SymbolValue) (old new : Entries) (i : Item) (number : ℕ) → AreMet symbols old → IsNoted i number old new → IsNumber symbols (symbol_as (item_value i)) number → AreMet symbols new
-noted symbols old new i number q n is text m h = noted_as symbols old i number text m (bytes_eq i.name.text.now text.now) q is refl (sym (n text) ∙ h)
+noted symbols old new i number q n is name m h = noted_as symbols old i number name m (bytes_eq i.name.text.now name.bytes.now) q is refl (sym (n name) ∙ h)

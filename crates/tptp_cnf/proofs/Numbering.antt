@@ -7,10 +7,10 @@ use Rattle.std.specs.List.{list_any, position_or_len, flat_map}
 use Rattle.std.specs.Str.{bytes_eq}
 use Rattle.me_terms.specs.LabelEquality.{same_symbol}
 use Rattle.me_terms.specs.LabelEqualityLaws.{same_symbol_itself}
-use Rattle.me_terms.specs.Signatures.{with_symbol, number_of}
+use Rattle.me_terms.specs.Signatures.{with_symbol}
 use Rattle.me_terms.specs.Values.{SymbolValue}
 use Rattle.tptp_grammar.specs.Limits.{with_variables}
-use Rattle.tptp_cnf.specs.Meaning.{with_symbols, place_of}
+use Rattle.tptp_cnf.specs.Meaning.{with_symbols}
 use Rattle.tptp_cnf.specs.Rows.{ItemValue, symbol_as, text_as, Names, with_item_as, with_item, number_as, number_in, node_in, names_after, numbered}
 use Rattle.tptp_cnf.specs.declared.item.Role.{Role}
 use Rattle.tptp_cnf.specs.declared.item.Role.TheVariants as role

@@ -1,11 +1,11 @@
 -- What was read of the bytes as their tokens are taken one after another.
-use Rattle.std.proofs.Common.{◌≡◌, ℕ, Bool, true, false, List, [], ◌∷◌, ◌++◌, length, map, Option, Some, None, refl, sym, ap, subst, ◌∙◌, ◌⊎◌, inl, inr, true≢false}
+use Rattle.std.proofs.Common.{◌≡◌, ℕ, Bool, false, List, [], ◌∷◌, ◌++◌, length, Option, Some, None, refl, sym, ap, subst, ◌∙◌, inl, inr, true≢false}
 use Rattle.std.specs.Prelude.{IsTrue, ◌↔◌}
 use Rattle.std.proofs.lemmas.List.{map-append}
 use Rattle.me_terms.specs.Values.{ProblemValue}
 use Rattle.tptp_tokens.specs.Gaps.{IsGap}
 use Rattle.tptp_tokens.specs.Remainders.{Remainder}
-use Rattle.tptp_tokens.specs.Tokens.{PlacedToken, IsNext, IsCutFrom, IsCut}
+use Rattle.tptp_tokens.specs.Tokens.{PlacedToken, IsNext, IsCutFrom}
 use Rattle.tptp_grammar.specs.Terminals.{Terminal, terminal, terminals}
 use Rattle.tptp_grammar.specs.Written.{WrittenFormula}
 use Rattle.tptp_grammar.specs.Printed.{Printed, printed, printed_terminals}
@@ -19,12 +19,12 @@ use Rattle.tptp_grammar.proofs.Runs.{Runs, file_runs}
 use Rattle.tptp_grammar.proofs.Judgements.{Reads, accepted, refused, cut_short}
 use Rattle.tptp_cnf.specs.Meaning.{problem_of}
 use Rattle.tptp_cnf.specs.Files.{IsFile}
-use Rattle.tptp_cnf.specs.Causes.{BeginsWith, IsRefusedToken, EndsEarly, RefusedAt, error_of, IsCause}
+use Rattle.tptp_cnf.specs.Causes.{BeginsWith, IsRefusedToken, RefusedAt, error_of, IsCause}
 use Rattle.tptp_cnf.specs.Rows.{Draft, empty_draft, fed, fed_from, feeds, finished}
 use Rattle.tptp_cnf.specs.Views.{TellsAt}
 use Rattle.tptp_cnf.specs.declared.error.CnfError.{CnfError}
 use Rattle.tptp_cnf.specs.declared.error.CnfError.TheVariants as error
-use Rattle.tptp_cnf.proofs.Fed.{after_file, file_fed}
+use Rattle.tptp_cnf.proofs.Fed.{file_fed}
 use Rattle.tptp_cnf.proofs.Drafted.{finished_is}
 
 abbrev pub all_of : List ℕ → Remainder

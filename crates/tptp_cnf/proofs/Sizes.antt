@@ -1,5 +1,5 @@
 -- A problem is no greater than the tokens of its file, and those are no more than its bytes.
-use Rattle.std.proofs.Common.{◌≡◌, ℕ, zero, suc, ◌+◌, ◌<◌, ◌≤◌, Bool, true, false, List, [], ◌∷◌, ◌++◌, length, refl, sym, ap, subst, ◌∙◌, arith}
+use Rattle.std.proofs.Common.{◌≡◌, ℕ, zero, suc, ◌+◌, ◌≤◌, Bool, true, false, List, [], ◌∷◌, ◌++◌, length, refl, sym, ap, subst, ◌∙◌, arith}
 use Rattle.std.proofs.lemmas.List.{length-append}
 use Rattle.std.proofs.lemmas.List.Sums.{sum_by-append}
 use Rattle.std.specs.Prelude.{if◌then◌else◌}
@@ -10,9 +10,9 @@ use Rattle.me_terms.specs.Variables.{weight, weights}
 use Rattle.me_terms.specs.Measures.{literal_weight, literals_weight}
 use Rattle.me_terms.specs.Values.{SymbolValue, SignatureValue, ClauseValue, ProblemValue}
 use Rattle.me_terms.specs.declared.atom.Literal.{Literal}
-use Rattle.tptp_tokens.specs.Gaps.{Piece, Blank, Line, LastLine, Block, IsPiece, Skips, IsGap}
+use Rattle.tptp_tokens.specs.Gaps.{Piece, Blank, Line, LastLine, Block, IsPiece, Skips}
 use Rattle.tptp_tokens.specs.Remainders.{Remainder}
-use Rattle.tptp_tokens.specs.Tokens.{PlacedToken, IsNext, IsCutFrom}
+use Rattle.tptp_tokens.specs.Tokens.{PlacedToken, IsCutFrom}
 use Rattle.tptp_tokens.proofs.OneCut.{first_takes}
 use Rattle.tptp_grammar.specs.Terminals.{Terminal, OpenRound, CloseRound, terminals}
 use Rattle.tptp_grammar.specs.Terminals as terminal
@@ -21,7 +21,7 @@ use Rattle.tptp_grammar.specs.Written.{WrittenTerm, Distinct, Apply, WrittenTerm
 use Rattle.tptp_grammar.specs.Printed.{Printed, plain, as_part, printed_terminals, times_then, term_then, arguments_then, others_then, atom_then, signed_then, literal_then, barred_then, notes_then, noted_then, formula_then, printed}
 use Rattle.tptp_grammar.specs.declared.part.Part.{Part}
 use Rattle.tptp_grammar.specs.declared.part.Part.TheVariants.{Positive as PositivePart, Atom as AtomPart, End as EndPart}
-use Rattle.tptp_cnf.specs.Meaning.{is_positive, literals_of, is_left_out, term_functions, terms_functions, atom_predicates, atom_functions, literals_predicates, literals_functions, file_predicates, file_functions, with_symbols, term_of, terms_of, signed_literal, clause_literals, variables_of, clause_of, clauses_of, is_constant, c0_symbol, with_constant, problem_of}
+use Rattle.tptp_cnf.specs.Meaning.{is_positive, literals_of, is_left_out, term_functions, terms_functions, atom_predicates, atom_functions, literals_predicates, literals_functions, file_predicates, file_functions, with_symbols, term_of, terms_of, signed_literal, clause_literals, variables_of, clause_of, clauses_of, is_constant, c0_symbol, problem_of}
 use Rattle.tptp_cnf.specs.Files.{IsFile, clauses_weight}
 use Rattle.tptp_cnf.proofs.Reached.{all_of}
 

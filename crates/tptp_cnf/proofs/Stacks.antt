@@ -1,5 +1,5 @@
 -- The topmost items of a stack, and the literals that nodes are built up to from the last one on.
-use Rattle.std.proofs.Common.{◌≡◌, ℕ, zero, suc, ◌+◌, ◌-◌, ◌<◌, List, [], ◌∷◌, ◌++◌, map, reverse, take, drop, refl, sym, ap, ◌∙◌, append_assoc, arith}
+use Rattle.std.proofs.Common.{◌≡◌, ℕ, zero, suc, ◌+◌, ◌-◌, ◌<◌, List, [], ◌∷◌, ◌++◌, map, reverse, take, drop, refl, ap, ◌∙◌, append_assoc, arith}
 use Rattle.std.proofs.lemmas.List.{reverse-append}
 use Rattle.me_terms.specs.TermViews.{term_value}
 use Rattle.me_terms.specs.Terms.{TermValue}

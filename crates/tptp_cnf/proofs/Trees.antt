@@ -1,10 +1,10 @@
 -- The names of the row of a written tree are those of the tree, and the row is built up to what the tree means.
-use Rattle.std.proofs.Common.{◌≡◌, ℕ, suc, ◌+◌, Bool, true, false, List, [], ◌∷◌, ◌++◌, length, map, take, drop, refl, sym, ap, ◌∙◌, append_assoc, arith}
-use Rattle.std.proofs.lemmas.List.{append-nil, map-append}
+use Rattle.std.proofs.Common.{◌≡◌, ℕ, Bool, true, false, List, [], ◌∷◌, ◌++◌, map, take, drop, refl, ap, ◌∙◌, append_assoc}
+use Rattle.std.proofs.lemmas.List.{map-append}
 use Rattle.std.proofs.lemmas.Grind.{flat_map-append}
 use Rattle.std.specs.List.{flat_map}
 use Rattle.me_terms.specs.Terms.{TermValue, App, Arguments, Nil, Cons, arguments_of}
-use Rattle.me_terms.specs.Values.{SymbolValue, SignatureValue}
+use Rattle.me_terms.specs.Values.{SymbolValue}
 use Rattle.me_terms.specs.declared.atom.Literal.{Literal}
 use Rattle.tptp_grammar.specs.Written as written
 use Rattle.tptp_grammar.specs.Written.{Name, Bare, Quoted, WrittenTerm, Distinct, Apply, WrittenTerms, NoTerms, OneMore, WrittenAtom, Truth, Predicate, WrittenLiteral}

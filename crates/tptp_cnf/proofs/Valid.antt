@@ -1,25 +1,23 @@
 -- The problem that a file means is valid.
-use Rattle.std.proofs.Common.{◌≡◌, ℕ, suc, ◌+◌, ◌-◌, ◌^◌, ◌<◌, ◌≤◌, Bool, true, false, cond, eqb, ltb, ◌&&◌, List, [], ◌∷◌, ◌++◌, length, map, Option, Some, None, refl, sym, ap, subst, ◌∙◌, append_assoc, one-add, arith}
+use Rattle.std.proofs.Common.{◌≡◌, ℕ, ◌+◌, ◌<◌, ◌≤◌, Bool, true, false, cond, eqb, ltb, ◌&&◌, List, [], ◌∷◌, ◌++◌, length, map, refl, sym, ap, subst, ◌∙◌, append_assoc, one-add, arith}
 use Rattle.std.proofs.lemmas.List.{append-nil, map-append, length-append}
 use Rattle.std.proofs.lemmas.List.Sums.{sum_by-append}
 use Rattle.std.proofs.lemmas.List.Elements.{All-nil, All-cons}
 use Rattle.std.proofs.lemmas.Bool.Decides.{nat_tests}
 use Rattle.std.specs.Prelude.{◌||◌, not, slice_get, if◌then◌else◌}
-use Rattle.std.specs.List.{All, AllByRecursion, list_any, list_all, position_or_len, flat_map}
+use Rattle.std.specs.List.{All, AllByRecursion, list_any, list_all, position_or_len}
 use Rattle.std.specs.Str.{bytes_eq}
 use Rattle.me_terms.specs.LabelEquality.{same_symbol}
 use Rattle.me_terms.specs.LabelEqualityLaws.{same_symbol_sound}
 use Rattle.me_terms.specs.Labels.{IsFunctionSymbol, IsPredicateSymbol}
 use Rattle.me_terms.specs.Signatures.{with_symbol, number_of, takes, is_known, are_known, is_known_atom}
 use Rattle.me_terms.specs.Measures.{literal_weight, literals_weight}
-use Rattle.me_terms.specs.Terms.{Arguments, Nil, Cons}
 use Rattle.me_terms.specs.Validity.{clause_variables, IsValidClause, IsValid}
 use Rattle.me_terms.specs.Values.{SymbolValue, SignatureValue, ClauseValue, ProblemValue}
 use Rattle.me_terms.specs.Variables as variables
 use Rattle.me_terms.specs.Variables.{is_numbered_from}
 use Rattle.me_terms.specs.declared.atom.Literal.{Literal}
 use Rattle.tptp_grammar.specs.Limits.{with_variables}
-use Rattle.tptp_grammar.specs.Terminals.{terminals}
 use Rattle.tptp_grammar.specs.Written as written
 use Rattle.tptp_grammar.specs.Written.{WrittenTerm, Distinct, Apply, WrittenTerms, NoTerms, OneMore, WrittenAtom, Truth, Predicate, WrittenLiteral, WrittenFormula}
 use Rattle.tptp_cnf.specs.Meaning as meaning

@@ -6,7 +6,6 @@ use Rattle.me_terms.specs.Terms.{TermValue, Var, App, Arguments, Nil, Cons}
 use Rattle.me_terms.specs.Validity.{clause_variables, IsValid}
 use Rattle.me_terms.specs.Values.{SymbolValue, ClauseValue, ProblemValue}
 use Rattle.me_terms.specs.Variables.{first_ones}
-use Rattle.me_terms.specs.declared.atom.Literal.{Literal}
 use Rattle.tptp_cnf.specs.Meaning.{with_symbols, is_constant, with_constant}
 
 -- the numbers of the functions, as often as they stand, each before its arguments

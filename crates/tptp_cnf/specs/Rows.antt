@@ -1,6 +1,6 @@
 -- The problem as far as it is read: what each token adds to it. Only the private calls of the reader speak of it.
 use Rattle.std.specs.Prelude.{ℕ, zero, suc, ◌+◌, ◌-◌, Bool, true, false, List, [], ◌∷◌, ◌++◌, length, take, drop, codes, Option, Some, None, if◌then◌else◌}
-use Rattle.std.specs.List.{list_any, position_or_len}
+use Rattle.std.specs.List.{position_or_len}
 use Rattle.std.specs.Str.{bytes_eq}
 use Rattle.me_terms.specs.Signatures.{with_symbol, number_of}
 use Rattle.me_terms.specs.Terms.{TermValue, Var, App, arguments_of}

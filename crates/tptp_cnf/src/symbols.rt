@@ -14,8 +14,59 @@ use crate::numbers::{function, predicate, symbol};
 use indexmap::IndexMap;
 use me_terms::Signature;
 use std::alloc::{AllocError, Global};
+use std::hash::{Hash, Hasher};
 use std::marker::Model;
 use tptp_tokens::TokenKind;
+
+/// The bytes of a token. They are hashed in one piece.
+#[derive(Clone, Copy, Debug)]
+pub(crate) struct Name<'a> {
+    pub(crate) bytes: &'a [u8],
+}
+
+impl PartialEq for Name<'_> {
+    ghost use Rattle.std.specs.Str.{bytes_eq};
+    ghost use Rattle.std.specs.Cmp.{on_per, partial_equiv_from_equiv};
+    ghost use Rattle.std.specs.Cmp.Lexicographic.{nat_list_eq_equiv};
+
+    ghost eq = { λ a b. bytes_eq a.bytes.now b.bytes.now };
+
+    ghost laws = { on_per (λ a. a.bytes.now) (partial_equiv_from_equiv nat_list_eq_equiv) };
+
+    fn eq(&self, other: &Self) -> bool {
+        self.bytes == other.bytes
+    }
+}
+
+impl Eq for Name<'_> {
+    ghost use Rattle.std.specs.Cmp.{on_equiv};
+    ghost use Rattle.std.specs.Cmp.Lexicographic.{nat_list_eq_equiv};
+
+    ghost laws = { on_equiv (λ a. a.bytes.now) nat_list_eq_equiv };
+}
+
+impl Hash for Name<'_> {
+    ghost use Rattle.std.specs.Prelude.{[], ◌∷◌};
+    ghost use Rattle.std.proofs.Common.{ap};
+    ghost use Rattle.std.specs.Cmp.Lexicographic.{bytes_decides};
+
+    ghost hash_input = { λ a. a.bytes.now ∷ [] };
+
+    ghost respects_eq = { λ a b h. ap (λ bytes. bytes ∷ []) ((bytes_decides a.bytes.now b.bytes.now).0 h) };
+
+    fn hash<H: Hasher>(&self, state: &mut H) {
+        state.write(self.bytes);
+    }
+}
+
+/// The bytes of the name's token.
+fn name_of<'a>(item: &Item<'a>) -> Name<'a>
+    ensures { result.bytes.now ≡ item.now.name.text.now }
+{
+    Name {
+        bytes: item.name.text,
+    }
+}
 
 /// The symbol that a text was last met as: the kind of its token, its number of arguments, and its number.
 #[derive(Clone, Copy, Debug)]
@@ -29,8 +80,8 @@ pub(crate) struct Met {
 #[derive(Drop)]
 pub(crate) struct Symbols<'a> {
     signature: Signature,
-    functions: IndexMap<&'a [u8], Met>,
-    predicates: IndexMap<&'a [u8], Met>,
+    functions: IndexMap<Name<'a>, Met>,
+    predicates: IndexMap<Name<'a>, Met>,
 }
 
 impl<'a> Model for Symbols<'a> {
@@ -46,10 +97,10 @@ impl<'a> Model for Symbols<'a> {
 }
 
 /// The number of the name, if its text was last met as its symbol.
-fn found(met: &IndexMap<&[u8], Met>, item: &Item<'_>) -> Option<u32>
+fn found(met: &IndexMap<Name<'_>, Met>, item: &Item<'_>) -> Option<u32>
     ensures { IfSome result (λ n. (symbols : List SymbolValue) → AreMet symbols met.now.entries → IsNumber symbols (symbol_as (item_value item.now)) n) }
 {
-    match met.get(&item.name.text) {
+    match met.get(&name_of(item)) {
         Some(last) if last.kind == item.name.kind && last.arity == item.arity => Some(last.number),
         _ => None,
     }
@@ -57,7 +108,7 @@ fn found(met: &IndexMap<&[u8], Met>, item: &Item<'_>) -> Option<u32>
 
 /// Notes the number of the name. Nothing changes where memory is out.
 fn note<'a>(
-    met: &mut IndexMap<&'a [u8], Met>,
+    met: &mut IndexMap<Name<'a>, Met>,
     item: &Item<'a>,
     number: u32,
 ) -> Result<(), AllocError>
@@ -69,7 +120,7 @@ fn note<'a>(
         arity: item.arity,
         number,
     };
-    match met.insert(item.name.text, last) {
+    match met.insert(name_of(item), last) {
         Ok(_) => Ok(()),
         Err(_) => Err(AllocError),
     }

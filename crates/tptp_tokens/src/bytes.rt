@@ -13,10 +13,14 @@ pub(crate) fn blank(byte: u8) -> bool
     matches!(byte, 9..=13 | 32)
 }
 
+/// The letters, the digits and the underscore, as a set of bytes: byte `b` is in it where bit `b % 64` of
+/// number `b / 64` is set.
+const WORD_BYTES: [u64; 4] = [0x03ff_0000_0000_0000, 0x07ff_fffe_87ff_fffe, 0, 0];
+
 pub(crate) fn word_byte(byte: u8) -> bool
     ensures { result ≡ is_word_byte byte }
 {
-    matches!(byte, b'a'..=b'z' | b'A'..=b'Z' | b'0'..=b'9' | b'_')
+    (WORD_BYTES[(byte / 64) as usize] >> (byte % 64)) & 1 == 1
 }
 
 pub(crate) fn digit(byte: u8) -> bool

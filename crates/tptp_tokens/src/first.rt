@@ -144,6 +144,7 @@ fn number<'a>(bytes: &'a [u8], rest: &'a [u8]) -> Found<'a>
 }
 
 /// A sign of one byte, or a bad token, where no other token may begin.
+#[inline(always)]
 fn sign<'a>(bytes: &'a [u8], byte: u8, after: &'a [u8]) -> Found<'a>
     requires head { bytes.now ≡ byte ∷ after.now }
     requires signs { BeginsSignsAlone byte bytes.now }

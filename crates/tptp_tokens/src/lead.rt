@@ -43,6 +43,7 @@ pub(crate) fn lead_of(byte: u8) -> Lead
 }
 
 /// The kind of a sign of one byte, and `Bad` for any other byte.
+#[inline(always)]
 pub(crate) fn sign_kind(byte: u8) -> TokenKind
     ensures { result ≡ sign_kind byte }
 {

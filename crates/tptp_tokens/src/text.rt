@@ -25,6 +25,7 @@ fn copied(alloc: Global, bytes: &[u8]) -> Result<Text, AllocError>
     ensures { IfOk result (λ text. text.items ≡ bytes.now) }
 {
     let mut text = Text::new(alloc);
+    text.reserve(bytes.len() as u64)?;
     'bytes: for byte in bytes {
         push(&mut text, *byte)?;
     }

@@ -1,4 +1,3 @@
-use Rattle.std.proofs.Common.{OnOk}
 use Rattle.tptp_cnf.proofs.Stacks.{one_taken, one_dropped}
 use Rattle.tptp_cnf.proofs.build.taken.Goals as goal
 

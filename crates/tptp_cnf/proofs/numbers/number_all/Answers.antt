@@ -1,4 +1,4 @@
-use Rattle.std.proofs.Common.{[], arith}
+use Rattle.std.proofs.Common.{[]}
 use Rattle.tptp_tokens.specs.declared.token.TokenKind.TheVariants.{LowerWord}
 use Rattle.tptp_cnf.specs.declared.item.Item.{Item}
 use Rattle.tptp_cnf.specs.declared.item.Role.TheVariants.{Positive}

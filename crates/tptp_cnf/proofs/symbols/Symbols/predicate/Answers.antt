@@ -1,4 +1,4 @@
-use Rattle.std.proofs.Common.{◌≡◌, ℕ, List, sym, ap, subst, ◌∙◌}
+use Rattle.std.proofs.Common.{◌≡◌, List, sym, ap, subst, ◌∙◌}
 use Rattle.me_terms.specs.Signatures.{with_symbol, number_of}
 use Rattle.me_terms.specs.Values.{SymbolValue, SignatureValue}
 use Rattle.tptp_cnf.specs.Rows.{symbol_as}
