@@ -1,17 +1,13 @@
 //! What clauses of two literals assert by an entry against the first one.
-ghost use Rattle.std.specs.Prelude.{◌≡◌, ℕ, ◌<◌, ◌-◌, ◌^◌, ◌∷◌, [], length, not, Some, IfOk, IsTrue};
+ghost use Rattle.std.specs.Prelude.{◌≡◌, ◌<◌, ◌-◌, ◌^◌, ◌∷◌, [], length, Some, IfOk};
 ghost use Rattle.me_terms.specs.Terms as tree;
-ghost use Rattle.me_terms.specs.Values.{EntryValue};
-ghost use Rattle.me_terms.specs.Context.{IsVisible};
 ghost use Rattle.me_terms.specs.Positions.{positions_of, AreOpposite};
 ghost use Rattle.me_terms.specs.Validity.{IsLawful};
 
+use crate::samples::{clause, is_opposite};
 use assert_rule::{assert_before, assert_of};
 use me_context::Context;
-use me_terms::{
-    Atom, Bounds, Clause, Entry, Form, Kind, Label, Literal, Literals, Pattern, Reason, Term,
-    Terms, Text, Tuple, View,
-};
+use me_terms::{Atom, Bounds, Clause, Entry, Kind, Literal, Pattern, Reason, Term, Terms, Tuple};
 use std::alloc::{AllocError, Global};
 use std::test::Fail;
 
@@ -43,40 +39,11 @@ fn example(alloc: Global, kind: Kind) -> Result<Context, AllocError> {
     }
 }
 
-fn is_opposite(context: &Context, literal: &Literal) -> bool
-    ensures { IsTrue result → (e : EntryValue) × IsVisible context.now 1 e × (e.positive ≡ not literal.now.positive) }
-{
-    match context.entry(1) {
-        Some(entry) => context.visible(1) && entry.positive != literal.positive,
-        None => false,
-    }
-}
-
 /// P(X) or its complement
 fn literal(alloc: Global, positive: bool, pred: u32) -> Result<Literal, AllocError> {
     Ok(Literal {
         positive,
         atom: unary(alloc, pred)?,
-    })
-}
-
-fn clause(alloc: Global, first: Literal, second: Literal) -> Result<Clause, AllocError>
-    ensures { IfOk result (λ c. c.literals ≡ first ∷ second ∷ []) }
-{
-    let mut literals = Literals::new(alloc);
-    let Ok(()) = literals.push(first) else {
-        return Err(AllocError);
-    };
-    let Ok(()) = literals.push(second) else {
-        return Err(AllocError);
-    };
-    Ok(Clause {
-        number: 1,
-        label: Label {
-            form: Form::Word,
-            text: Text::new(alloc),
-        },
-        literals,
     })
 }
 
@@ -121,14 +88,14 @@ fn entry_of(
     Ok(assert_of(alloc, clause, 0, 1, tuple, context, &bounds)?)
 }
 
-#[tactic(auto, using(joint_unifiers::proofs::Samples::first_opposite))]
+#[tactic(auto, using(crate::proofs::Samples::first_opposite))]
 fn with_entry(
     alloc: Global,
     context: &Context,
     first: Literal,
     second: Literal,
 ) -> Result<Option<Entry>, Fail> {
-    if !is_opposite(context, &first) {
+    if !is_opposite(context, 1, &first) {
         return Err("opposite".into());
     }
     let clause = clause(alloc, first, second)?;

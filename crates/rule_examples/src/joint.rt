@@ -1,17 +1,13 @@
 //! Unifiers of clauses of two literals with entries of small contexts, and contradiction of a literal.
-ghost use Rattle.std.specs.Prelude.{◌≡◌, ◌∷◌, [], length, not, IfOk, IsTrue};
+ghost use Rattle.std.specs.Prelude.{◌≡◌, length, IfOk};
 ghost use Rattle.me_terms.specs.TermViews.{term_value};
 ghost use Rattle.me_terms.specs.Terms as tree;
-ghost use Rattle.me_terms.specs.Values.{EntryValue};
-ghost use Rattle.me_terms.specs.Context.{IsVisible};
 ghost use Rattle.rule_examples.specs.Samples.{sample};
 
+use crate::samples::{clause, is_opposite};
 use joint_unifiers::{Unifier, is_contradictory, joint_unifier};
 use me_context::Context;
-use me_terms::{
-    Atom, Clause, Entry, Form, Kind, Label, Literal, Literals, Pattern, Reason, Term, Terms, Text,
-    Tuple, View,
-};
+use me_terms::{Atom, Entry, Kind, Literal, Pattern, Reason, Term, Terms, Tuple};
 use std::alloc::{AllocError, Global};
 use std::test::Fail;
 
@@ -78,35 +74,6 @@ fn literal(
     Ok(Literal {
         positive,
         atom: atom(alloc, wide, x, y)?,
-    })
-}
-
-fn is_opposite(context: &Context, k: u32, literal: &Literal) -> bool
-    ensures { IsTrue result → (e : EntryValue) × IsVisible context.now k e × (e.positive ≡ not literal.now.positive) }
-{
-    match context.entry(k) {
-        Some(entry) => context.visible(k) && entry.positive != literal.positive,
-        None => false,
-    }
-}
-
-fn clause(alloc: Global, first: Literal, second: Literal) -> Result<Clause, AllocError>
-    ensures { IfOk result (λ c. c.literals ≡ first ∷ second ∷ []) }
-{
-    let mut literals = Literals::new(alloc);
-    let Ok(()) = literals.push(first) else {
-        return Err(AllocError);
-    };
-    let Ok(()) = literals.push(second) else {
-        return Err(AllocError);
-    };
-    Ok(Clause {
-        number: 1,
-        label: Label {
-            form: Form::Word,
-            text: Text::new(alloc),
-        },
-        literals,
     })
 }
 

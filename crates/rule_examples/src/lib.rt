@@ -8,4 +8,6 @@ mod joint;
 #[cfg(test)]
 mod next_steps;
 #[cfg(test)]
+mod samples;
+#[cfg(test)]
 mod splits;

@@ -1,6 +1,6 @@
 //! The first steps of small problems.
-ghost use Rattle.std.specs.Prelude.{◌≤◌, IfOk};
-ghost use Rattle.me_terms.specs.Validity.{IsLawful, IsValid};
+ghost use Rattle.std.specs.Prelude.{◌≤◌};
+ghost use Rattle.me_terms.specs.Validity.{IsLawful};
 
 use me_context::Context;
 use me_terms::{

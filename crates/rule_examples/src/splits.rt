@@ -1,14 +1,11 @@
 //! The choice between two literals that the pseudo-literal leaves open.
-ghost use Rattle.std.specs.Prelude.{◌≡◌, ℕ, ◌≤◌, ◌∷◌, [], not, IfOk, IsTrue};
-ghost use Rattle.me_terms.specs.Values.{EntryValue};
-ghost use Rattle.me_terms.specs.Context.{IsVisible};
+ghost use Rattle.std.specs.Prelude.{◌≡◌, ◌≤◌, ◌∷◌, [], IfOk};
 ghost use Rattle.me_terms.specs.Validity.{IsLawful};
 
+use crate::samples::{clause, is_opposite};
 use joint_unifiers::joint_unifier;
 use me_context::Context;
-use me_terms::{
-    Atom, Bounds, Clause, Form, Kind, Label, Literal, Literals, Term, Terms, Text, Tuple, View,
-};
+use me_terms::{Atom, Bounds, Kind, Literal, Term, Terms, Tuple};
 use split_rule::{SplitChoice, split_of};
 use std::alloc::{AllocError, Global};
 use std::test::Fail;
@@ -30,35 +27,6 @@ fn literal(alloc: Global, pred: u32, term: Term) -> Result<Literal, AllocError> 
             args: one(alloc, term)?,
         },
     })
-}
-
-fn clause(alloc: Global, first: Literal, second: Literal) -> Result<Clause, AllocError>
-    ensures { IfOk result (λ c. c.literals ≡ first ∷ second ∷ []) }
-{
-    let mut literals = Literals::new(alloc);
-    let Ok(()) = literals.push(first) else {
-        return Err(AllocError);
-    };
-    let Ok(()) = literals.push(second) else {
-        return Err(AllocError);
-    };
-    Ok(Clause {
-        number: 1,
-        label: Label {
-            form: Form::Word,
-            text: Text::new(alloc),
-        },
-        literals,
-    })
-}
-
-fn is_opposite(context: &Context, literal: &Literal) -> bool
-    ensures { IsTrue result → (e : EntryValue) × IsVisible context.now 0 e × (e.positive ≡ not literal.now.positive) }
-{
-    match context.entry(0) {
-        Some(entry) => context.visible(0) && entry.positive != literal.positive,
-        None => false,
-    }
 }
 
 fn zeros(alloc: Global) -> Result<Tuple, AllocError>
@@ -98,10 +66,10 @@ fn split(
     requires { IsLawful bounds.now }
 {
     let context = Context::new(alloc)?;
-    if !is_opposite(&context, &first) {
+    if !is_opposite(&context, 0, &first) {
         return Err("opposite".into());
     }
-    if !is_opposite(&context, &second) {
+    if !is_opposite(&context, 0, &second) {
         return Err("opposite".into());
     }
     let clause = clause(alloc, first, second)?;

@@ -5,25 +5,13 @@ ghost use Rattle.me_terms.specs.Terms as tree;
 ghost use Rattle.me_terms.specs.Variables.{is_canonical};
 ghost use Rattle.joint_unifiers.specs.ClauseUnifiers.{IsSkip};
 
+use crate::samples::{clause, constant};
 use context_unifier::{Cursor, Limits, is_productive, next_unifier};
 use joint_unifiers::is_contradictory;
 use me_context::Context;
-use me_terms::{
-    Atom, Clause, Entry, Form, Kind, Label, Literal, Literals, Pattern, Reason, Term, Terms, Text,
-    Tuple, View,
-};
+use me_terms::{Atom, Entry, Kind, Literal, Literals, Pattern, Reason, Term, Terms, Tuple, View};
 use std::alloc::{AllocError, Global};
 use std::test::Fail;
-
-/// A constant.
-fn constant(alloc: Global, f: u32) -> Term
-    ensures { term_value result ≡ tree.App f tree.Nil }
-{
-    Term::App {
-        f,
-        args: Terms::new(alloc),
-    }
-}
 
 fn unary(alloc: Global, pred: u32, term: Term) -> Result<Atom, AllocError>
     ensures { IfOk result (λ a. a ≡ record { pred = pred; args = tree.Cons (term_value term) tree.Nil }) }
@@ -126,19 +114,6 @@ fn six(alloc: Global) -> Result<Literals, AllocError>
     let four = with(alloc, three, 1, Term::Var(0))?;
     let five = with(alloc, four, 1, Term::Var(0))?;
     Ok(with(alloc, five, 1, Term::Var(0))?)
-}
-
-fn clause(alloc: Global, literals: Literals) -> Clause
-    ensures { result.literals ≡ literals.items }
-{
-    Clause {
-        number: 1,
-        label: Label {
-            form: Form::Word,
-            text: Text::new(alloc),
-        },
-        literals,
-    }
 }
 
 /// The positions of the next tuples, one after the other, of up to nine.

@@ -8,6 +8,8 @@ mod enumeration;
 #[cfg(test)]
 mod production;
 #[cfg(test)]
+mod samples;
+#[cfg(test)]
 mod truth;
 #[cfg(test)]
 mod unification;

@@ -2,19 +2,17 @@
 //!
 //! The clause has `p(f(X40,X41),f(X40,X41))`, and `p(f(Xk,Xk),X(k+1))` for each k below 40. The context is
 //! `~v, ~p(X,X)` and `~p(f(X,t),f(X,t))`, where t is a constant or a variable.
-ghost use Rattle.std.specs.Prelude.{◌≡◌, false, length, IsTrue, IfOk, if◌then◌else◌};
+ghost use Rattle.std.specs.Prelude.{◌≡◌, false, IsTrue, IfOk, if◌then◌else◌};
 ghost use Rattle.me_terms.specs.TermViews.{term_value};
 ghost use Rattle.me_terms.specs.Terms as tree;
 ghost use Rattle.me_terms.specs.Terms.{arguments_of};
 ghost use Rattle.me_terms.specs.Variables.{is_canonical, are_ground};
 
+use crate::samples::{clause, constant};
 use context_unifier::{is_productive, next_unifier};
 use joint_unifiers::is_contradictory;
 use me_context::Context;
-use me_terms::{
-    Atom, Clause, Entry, Form, Kind, Label, Literal, Literals, Pattern, Reason, Term, Terms, Text,
-    Tuple, View,
-};
+use me_terms::{Atom, Entry, Kind, Literal, Literals, Pattern, Reason, Term, Terms, Tuple, View};
 use std::alloc::{AllocError, Global};
 use std::test::Fail;
 
@@ -57,10 +55,7 @@ fn end(alloc: Global, free: bool) -> Term
     if free {
         Term::Var(1)
     } else {
-        Term::App {
-            f: 0,
-            args: Terms::new(alloc),
-        }
+        constant(alloc, 0)
     }
 }
 
@@ -150,19 +145,6 @@ fn ones(alloc: Global, count: u32) -> Result<Tuple, AllocError> {
     match tuple.push(0) {
         Ok(()) => Ok(tuple),
         Err(_) => Err(AllocError),
-    }
-}
-
-fn clause(alloc: Global, literals: Literals) -> Clause
-    ensures { result.literals ≡ literals.items }
-{
-    Clause {
-        number: 1,
-        label: Label {
-            form: Form::Word,
-            text: Text::new(alloc),
-        },
-        literals,
     }
 }
 

@@ -3,20 +3,12 @@ ghost use Rattle.std.specs.Prelude.{◌≡◌, IfOk};
 ghost use Rattle.me_terms.specs.TermViews.{term_value};
 ghost use Rattle.me_terms.specs.Terms as tree;
 
+use crate::samples::constant;
 use induced_model::{produces, truth_of};
 use me_context::Context;
 use me_terms::{Atom, Entry, Kind, Literal, Pattern, Reason, Term, Terms};
 use std::alloc::{AllocError, Global};
 use std::test::Fail;
-
-fn constant(alloc: Global, f: u32) -> Term
-    ensures { term_value result ≡ tree.App f tree.Nil }
-{
-    Term::App {
-        f,
-        args: Terms::new(alloc),
-    }
-}
 
 fn pair(alloc: Global, first: Term, second: Term) -> Result<Atom, AllocError>
     ensures { IfOk result (λ a. a ≡ record { pred = 0; args = tree.Cons (term_value first) (tree.Cons (term_value second) tree.Nil) }) }
