@@ -5,7 +5,7 @@ use Rattle.me_terms.specs.Values.{EntryValue}
 use Rattle.me_terms.specs.Context.{Context, pseudo, IsLiteralEntry}
 use Rattle.me_terms.specs.Contradictory.{Contradicts}
 use Rattle.me_terms.specs.declared.atom.Pattern.TheVariants.{Of}
-use Rattle.rule_examples.proofs.Samples.{sample_is_literal, sample_apart}
+use Rattle.rule_examples.proofs.SampleAtoms.{sample_is_literal, sample_apart}
 
 pub lone_is_literal : (e : EntryValue) → e.atom ≡ Of (record { pred = 0; args = Cons (Var 0) Nil }) → IsLiteralEntry e
 lone_is_literal e is = sample_is_literal e false is

@@ -88,7 +88,7 @@ fn entry_of(
     Ok(assert_of(alloc, clause, 0, 1, tuple, context, &bounds)?)
 }
 
-#[tactic(auto, using(crate::proofs::Samples::first_opposite))]
+#[tactic(auto, using(crate::proofs::SampleAtoms::first_opposite))]
 fn with_entry(
     alloc: Global,
     context: &Context,

@@ -2,7 +2,7 @@
 ghost use Rattle.std.specs.Prelude.{◌≡◌, length, IfOk};
 ghost use Rattle.me_terms.specs.TermViews.{term_value};
 ghost use Rattle.me_terms.specs.Terms as tree;
-ghost use Rattle.rule_examples.specs.Samples.{sample};
+ghost use Rattle.rule_examples.specs.SampleAtoms.{sample};
 
 use crate::samples::{clause, is_opposite};
 use joint_unifiers::{Unifier, is_contradictory, joint_unifier};
@@ -48,7 +48,7 @@ fn atom(alloc: Global, wide: bool, x: u32, y: u32) -> Result<Atom, AllocError>
 }
 
 /// ~v, and p(h(X,Y)) or p(X) of a kind
-#[tactic(auto, using(crate::proofs::Samples::sample_is_literal, crate::proofs::Samples::sample_apart))]
+#[tactic(auto, using(crate::proofs::SampleAtoms::sample_is_literal, crate::proofs::Samples::sample_apart))]
 fn example(alloc: Global, kind: Kind, wide: bool) -> Result<Context, AllocError> {
     let atom = atom(alloc, wide, 0, 1)?;
     let mut context = Context::new(alloc)?;
@@ -78,7 +78,7 @@ fn literal(
 }
 
 /// The unifier of the first literal alone with the entry at a position.
-#[tactic(auto, using(crate::proofs::Samples::first_opposite))]
+#[tactic(auto, using(crate::proofs::SampleAtoms::first_opposite))]
 fn first_alone(
     alloc: Global,
     context: &Context,
@@ -104,7 +104,7 @@ fn first_alone(
 }
 
 /// The unifier of both literals with the pseudo-literal.
-#[tactic(auto, using(crate::proofs::Samples::both_opposite))]
+#[tactic(auto, using(crate::proofs::SampleAtoms::both_opposite))]
 fn with_pseudo(
     alloc: Global,
     context: &Context,

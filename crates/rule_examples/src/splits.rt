@@ -56,7 +56,7 @@ fn bounds(depth: u32, weight: u64) -> Bounds
 }
 
 /// What is split on of the clause of these literals, both against the pseudo-literal.
-#[tactic(auto, using(crate::proofs::Samples::both_opposite, split_rule::proofs::Rule::places_of_unifier))]
+#[tactic(auto, using(crate::proofs::SampleAtoms::both_opposite, split_rule::proofs::Rule::places_of_unifier))]
 fn split(
     alloc: Global,
     first: Literal,

@@ -12,7 +12,7 @@ use Rattle.me_terms.specs.declared.entry.Kind.{Kind}
 use Rattle.me_terms.specs.declared.entry.Kind.TheVariants.{Universal, Parametric}
 use Rattle.me_terms.specs.declared.atom.Pattern.{Pattern}
 use Rattle.me_terms.specs.declared.atom.Pattern.TheVariants.{Any, Of}
-use Rattle.rule_examples.specs.Samples.{sample}
+use Rattle.rule_examples.specs.SampleAtoms.{sample}
 
 sample_fits : (kind : Kind) (wide : Bool) → IsTrue (is_canonical (sample wide 0 1)) × (IsTrue (are_ground (sample wide 0 1).args) → kind ≡ Universal)
 sample_fits kind true = (refl, λ h. cc)
