@@ -48,7 +48,7 @@ fn atom(alloc: Global, wide: bool, x: u32, y: u32) -> Result<Atom, AllocError>
 }
 
 /// ~v, and p(h(X,Y)) or p(X) of a kind
-#[tactic(auto, using(crate::proofs::SampleAtoms::sample_is_literal, crate::proofs::Samples::sample_apart))]
+#[tactic(auto, using(crate::proofs::SampleAtoms::sample_is_literal, crate::proofs::SampleAtoms::sample_apart))]
 fn example(alloc: Global, kind: Kind, wide: bool) -> Result<Context, AllocError> {
     let atom = atom(alloc, wide, 0, 1)?;
     let mut context = Context::new(alloc)?;
