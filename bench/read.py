@@ -5,7 +5,8 @@ usage: bench/read.py [MEGABYTES]     after ./prove has built the program
 
 The clauses have one to five literals over 1,500 atoms. The file is read twice: with a sign at its end that no file
 has there, so that it is refused and all the time is reading; and without, where two contradictory units end the
-search at its first split, after a look at each clause. Times are of the processor, user and system together.
+search at its first split, after a look at each clause. Times are of the processor, user and system together, the
+best of five runs.
 """
 import os
 import random
@@ -45,7 +46,7 @@ def time_program(name, lines):
         file.flush()
         size = file.tell()
         seconds = []
-        for _ in range(3):
+        for _ in range(5):
             file.seek(0)
             begun = processor_seconds()
             ended = subprocess.run([PROGRAM], stdin=file, stdout=subprocess.PIPE)
