@@ -36,12 +36,16 @@ CHANGES = [
         ("followed_by s r x = apply_term r (s x)", [
             "followed_by s r x = apply_term s (r x)",
             "followed_by s r x = s x",
+            "followed_by s r x = r x",
             "followed_by s r x = apply_term s (s x)",
         ]),
     ]),
     ("IsInstance", "Substitutions", [
         ("IsInstance a b = (s : Substitution) × (apply_atom s a ≡ b)", [
             "IsInstance a b = (s : Substitution) × (apply_atom s b ≡ a)",
+            "IsInstance a b = (s : Substitution) × (apply_atom s a ≡ apply_atom s b)",
+            "IsInstance a b = (s : Substitution) × (t : Substitution) × (apply_atom s a ≡ apply_atom t b)",
+            "IsInstance a b = (s : Substitution) × (a ≡ b)",
             "IsInstance a b = (s : Substitution) × ((apply_atom s a).args ≡ b.args)",
         ]),
     ]),
@@ -59,17 +63,27 @@ CHANGES = [
     ("IsVariant", "Substitutions", [
         ("IsVariant p q = Generalizes p q × Generalizes q p", [
             "IsVariant p q = Generalizes p q × Generalizes p q",
+            "IsVariant p q = Generalizes q p × Generalizes q p",
             "IsVariant p q = p ≡ q",
+            "IsVariant p q = ¬ (¬ Generalizes p q × ¬ Generalizes q p)",
+            "IsVariant p q = Generalizes p q × ¬ Generalizes q p",
         ]),
     ]),
     ("IsStrictlyMoreGeneral", "Substitutions", [
         ("IsStrictlyMoreGeneral p q = Generalizes p q × ¬ Generalizes q p", [
             "IsStrictlyMoreGeneral p q = Generalizes p q",
+            "IsStrictlyMoreGeneral p q = Generalizes q p × ¬ Generalizes p q",
             "IsStrictlyMoreGeneral p q = ¬ Generalizes q p",
+            "IsStrictlyMoreGeneral p q = Generalizes p q × ¬ (p ≡ q)",
+            "IsStrictlyMoreGeneral p q = Generalizes p q × Generalizes q p",
         ]),
     ]),
     ("variables", "Variables", [
-        ("term_variables (App f ts) = variables_of ts", ["term_variables (App f ts) = f ∷ variables_of ts"]),
+        ("term_variables (Var x) = x ∷ []", ["term_variables (Var x) = []"]),
+        ("term_variables (App f ts) = variables_of ts", [
+            "term_variables (App f ts) = []",
+            "term_variables (App f ts) = f ∷ variables_of ts",
+        ]),
         ("variables_of (Cons t ts) = term_variables t ++ variables_of ts", [
             "variables_of (Cons t ts) = variables_of ts ++ term_variables t",
             "variables_of (Cons t ts) = term_variables t",
@@ -77,6 +91,10 @@ CHANGES = [
     ]),
     ("ground", "Variables", [
         ("is_ground (Var x) = false", ["is_ground (Var x) = true"]),
+        ("is_ground (App f ts) = are_ground ts", [
+            "is_ground (App f ts) = true",
+            "is_ground (App f ts) = false",
+        ]),
         ("are_ground (Cons t ts) = is_ground t && are_ground ts", [
             "are_ground (Cons t ts) = is_ground t",
             ("are_ground (Cons t ts) = is_ground t || are_ground ts", "Rattle.std.specs.Prelude.{◌||◌}"),
@@ -125,11 +143,16 @@ CHANGES = [
         ("canonical a = let names = first_ones [] (variables_of a.args) in apply_atom (λ x. Var (place_of x names)) a", ["canonical a = let names = first_ones (0 ∷ []) (variables_of a.args) in apply_atom (λ x. Var (place_of x names)) a"]),
     ]),
     ("literal_depth", "Measures", [
-        ("literal_depth l = depths l.atom.args", ["literal_depth l = 1 + depths l.atom.args"]),
+        ("literal_depth l = depths l.atom.args", [
+            "literal_depth l = 1 + depths l.atom.args",
+            "literal_depth l = weights l.atom.args",
+            "literal_depth l = 0",
+        ]),
     ]),
     ("literal_weight", "Measures", [
         ("literal_weight l = 1 + weights l.atom.args", [
             "literal_weight l = weights l.atom.args",
+            "literal_weight l = 2 + weights l.atom.args",
             "literal_weight l = 1 + depths l.atom.args",
         ]),
         ("literals_weight ls = sum_by literal_weight ls", ["literals_weight ls = 1 + sum_by literal_weight ls"]),
@@ -138,6 +161,8 @@ CHANGES = [
     ("complement", "Measures", [
         ("complement l = record { positive = not l.positive; atom = l.atom }", [
             "complement l = record { positive = l.positive; atom = l.atom }",
+            ("complement l = record { positive = false; atom = l.atom }", "Rattle.std.specs.Prelude.{false}"),
+            ("complement l = record { positive = true; atom = l.atom }", "Rattle.std.specs.Prelude.{true}"),
             "complement l = record { positive = not l.positive; atom = canonical l.atom }",
         ]),
     ]),
@@ -147,12 +172,21 @@ CHANGES = [
             "canonical_literal l = record { positive = not l.positive; atom = canonical l.atom }",
         ]),
     ]),
+    ("StandsAt", "Context", [
+        ("StandsAt context k e = slice_get context k ≡ Some e", [
+            "StandsAt context k e = slice_get (e ∷ context) k ≡ Some e",
+            "StandsAt context k e = (j : ℕ) × (slice_get context j ≡ Some e)",
+        ]),
+    ]),
     ("pseudo", "Context", [
         ("kind = Parametric; reason = Pseudo", [
             "kind = Universal; reason = Pseudo",
             ("kind = Parametric; reason = SplitLeft", "Rattle.me_terms.specs.Values.{SplitLeft}"),
         ]),
-        ("record { positive = positive; atom = Any", [("record { positive = false; atom = Any", "Rattle.std.specs.Prelude.{false}")]),
+        ("record { positive = positive; atom = Any", [
+            ("record { positive = false; atom = Any", "Rattle.std.specs.Prelude.{false}"),
+            ("record { positive = not positive; atom = Any", "Rattle.std.specs.Prelude.{not}"),
+        ]),
     ]),
     ("IsLiteralEntry", "Context", [
         ("IsAtomWith P Any = ⊥", ["IsAtomWith P Any = Unit {0}"]),
@@ -164,9 +198,12 @@ CHANGES = [
         ]),
     ]),
     ("IsContext", "Context", [
+        ("pub first : (positive : Bool) × StandsAt context 0 (pseudo positive)", ["pub first : (positive : Bool) × (positive ≡ positive)"]),
         ("(k : ℕ) (e : EntryValue) → 0 < k → StandsAt context k e → IsLiteralEntry e", [
             "(k : ℕ) (e : EntryValue) → 1 < k → StandsAt context k e → IsLiteralEntry e",
             "(k : ℕ) (e : EntryValue) → k ≡ 1 → StandsAt context k e → IsLiteralEntry e",
+            "(k : ℕ) (e : EntryValue) → 0 < k → StandsAt context k e → StandsAt context k e",
+            "(k : ℕ) (e : EntryValue) → (k ≡ k) → StandsAt context k e → IsLiteralEntry e",
         ]),
     ]),
     ("Hides", "Context", [
@@ -185,17 +222,27 @@ CHANGES = [
         ]),
     ]),
     ("IsHidden, IsVisible", "Context", [
+        ("IsHidden context k e = (j : ℕ) × (later : EntryValue) × Hides context k e j later", [
+            "IsHidden context k e = (j : ℕ) × (later : EntryValue) × Hides context j later k e",
+            "IsHidden context k e = (j : ℕ) × (later : EntryValue) × Hides context k e k later",
+            "IsHidden context k e = (j : ℕ) (later : EntryValue) → Hides context k e j later",
+        ]),
         ("IsVisible context k e = StandsAt context k e × ¬ IsHidden context k e", [
             "IsVisible context k e = StandsAt context k e × Unit {0}",
             "IsVisible context k e = Unit {0} × ¬ IsHidden context k e",
         ]),
     ]),
     ("add", "Context", [
-        ("add context e = context ++ e ∷ []", ["add context e = e ∷ context"]),
+        ("add context e = context ++ e ∷ []", [
+            "add context e = e ∷ context",
+            "add context e = context",
+            "add context e = context ++ e ∷ e ∷ []",
+        ]),
     ]),
     ("Unifiable", "Contradictory", [
         ("(s : Substitution) × (t : Substitution) × (apply_atom s a ≡ apply_atom t b)", [
             "(s : Substitution) × (t : Substitution) × (apply_atom s a ≡ apply_atom s b)",
+            "(s : Substitution) × (t : Substitution) × (apply_atom s a ≡ b)",
             "(s : Substitution) × (t : Substitution) × (a ≡ apply_atom t b)",
         ]),
     ]),
@@ -218,12 +265,19 @@ CHANGES = [
     ("Contradicts", "Contradictory", [
         ("(e.positive ≡ not positive) × Clash e.kind e.atom kind p", [
             "(e.positive ≡ positive) × Clash e.kind e.atom kind p",
+            "(e.positive ≡ e.positive) × Clash e.kind e.atom kind p",
+            "(e.positive ≡ not positive) × Clash kind e.atom e.kind p",
             "(e.positive ≡ not positive) × Clash e.kind p kind e.atom",
         ]),
         ("(k : ℕ) × (e : EntryValue) × IsVisible context k e × (e.positive", ["(k : ℕ) × (e : EntryValue) × (¬ IsVisible context k e) × (e.positive"]),
     ]),
     ("IsConsistent", "Contradictory", [
-        ("IsVisible context k e → ¬ Contradicts context e.positive e.kind e.atom", ["IsVisible context k e → e.kind ≡ Universal → ¬ Contradicts context e.positive e.kind e.atom"]),
+        ("IsVisible context k e → ¬ Contradicts context e.positive e.kind e.atom", [
+            "IsVisible context k e → ¬ Contradicts context (not e.positive) e.kind e.atom",
+            "IsVisible context k e → e.kind ≡ Universal → ¬ Contradicts context e.positive e.kind e.atom",
+            "IsVisible context k e → e.kind ≡ Parametric → ¬ Contradicts context e.positive e.kind e.atom",
+            "IsVisible context k e → e.positive ≡ e.positive",
+        ]),
     ]),
     ("HasException", "Produces", [
         ("IsVisible context j f × Generalizes f.atom (Of a)", ["IsVisible context j f × Generalizes (Of a) f.atom"]),
@@ -238,21 +292,42 @@ CHANGES = [
     ]),
     ("Produces", "Produces", [
         ("pub visible : IsVisible context k e", [("pub visible : StandsAt context k e", "Rattle.me_terms.specs.Context.{StandsAt}")]),
-        ("pub same_sign : e.positive ≡ l.positive", ["pub same_sign : l.positive ≡ l.positive"]),
+        ("pub same_sign : e.positive ≡ l.positive", [
+            "pub same_sign : l.positive ≡ l.positive",
+            ("pub same_sign : e.positive ≡ not l.positive", "Rattle.std.specs.Prelude.{not}"),
+        ]),
         ("pub generalizes : Generalizes e.atom (Of l.atom)", ["pub generalizes : IsStrictlyMoreGeneral e.atom (Of l.atom)"]),
         ("pub undisputed : (e.kind ≡ Universal) ⊎ (¬ HasException context e l.atom)", ["pub undisputed : (e.kind ≡ Parametric) ⊎ (¬ HasException context e l.atom)"]),
     ]),
     ("IsInduced, IsTrueIn", "Produces", [
-        ("IsTrueIn context l = MatchBool l.positive (IsInduced context l.atom) (¬ IsInduced context l.atom)", ["IsTrueIn context l = MatchBool l.positive (¬ IsInduced context l.atom) (IsInduced context l.atom)"]),
+        ("IsInduced context a = IsProduced context (record { positive = true; atom = a })", [
+            ("IsInduced context a = IsProduced context (record { positive = false; atom = a })", "Rattle.std.specs.Prelude.{false}"),
+            ("IsInduced context a = ¬ IsProduced context (record { positive = false; atom = a })", "Rattle.std.specs.Prelude.{false}"),
+        ]),
+        ("IsTrueIn context l = MatchBool l.positive (IsInduced context l.atom) (¬ IsInduced context l.atom)", [
+            "IsTrueIn context l = MatchBool l.positive (¬ IsInduced context l.atom) (IsInduced context l.atom)",
+            "IsTrueIn context l = MatchBool l.positive (IsInduced context l.atom) (IsProduced context l)",
+            "IsTrueIn context l = IsInduced context l.atom",
+        ]),
     ]),
     ("positions_of, entry_at", "Positions", [
+        ("positions_of None tuple = map Some tuple", ["positions_of None tuple = insert (map Some tuple) 0 None"]),
         ("positions_of (Some skip) tuple = insert (map Some tuple) skip None", [
             "positions_of (Some skip) tuple = insert (map Some tuple) 0 None",
             "positions_of (Some skip) tuple = insert (map Some tuple) (length tuple) None",
+            "positions_of (Some skip) tuple = map Some tuple",
         ]),
         ("entry_at context None = None", ["entry_at context None = slice_get context 0"]),
     ]),
     ("StandsAgainst", "Positions", [
+        ("pub literal : slice_get literals i ≡ Some l", [
+            "pub literal : l ≡ l",
+            "pub literal : slice_get literals 0 ≡ Some l",
+        ]),
+        ("pub position : slice_get positions i ≡ Some (Some k)", [
+            "pub position : k ≡ k",
+            "pub position : slice_get positions 0 ≡ Some (Some k)",
+        ]),
         ("pub stands : StandsAt context k e", ["pub stands : StandsAt context i e"]),
     ]),
     ("AreOpposite", "Positions", [
@@ -268,12 +343,41 @@ CHANGES = [
     ("IsSolvedBy", "Unifier", [
         ("IsSolvedBy t Any s a = ⊤", ["IsSolvedBy t Any s a = ⊥"]),
         ("IsSolvedBy t (Of b) s a = apply_atom t b ≡ apply_atom s a", [
+            "IsSolvedBy t (Of b) s a = apply_atom t b ≡ a",
+            "IsSolvedBy t (Of b) s a = b ≡ apply_atom s a",
             "IsSolvedBy t (Of b) s a = apply_atom s b ≡ apply_atom s a",
             "IsSolvedBy t (Of b) s a = (apply_atom t b).args ≡ (apply_atom s a).args",
         ]),
     ]),
     ("Solves", "Unifier", [
-        ("IsSolvedBy (u (i + 1)) e.atom (u 0) l.atom", ["IsSolvedBy (u 1) e.atom (u 0) l.atom"]),
+        ("IsSolvedBy (u (i + 1)) e.atom (u 0) l.atom", [
+            "IsSolvedBy (u 1) e.atom (u 0) l.atom",
+            "IsSolvedBy (u i) e.atom (u 0) l.atom",
+            "IsSolvedBy (u 0) e.atom (u 0) l.atom",
+            "IsSolvedBy (u (k + 1)) e.atom (u 0) l.atom",
+            "IsSolvedBy (u (i + 1)) e.atom (u (i + 1)) l.atom",
+        ]),
+    ]),
+    ("IsUnifier", "Unifier", [
+        ("pub solves : Solves context literals positions u", ["pub solves : u ≡ u"]),
+        ("pub most_general : (v : Family) → Solves context literals positions v → (r : Substitution) × ((space x : ℕ) → apply_term r (u space x) ≡ v space x)", [
+            "pub most_general : u ≡ u",
+            "pub most_general : (v : Family) → Solves context literals positions v → (r : Substitution) × ((space x : ℕ) → apply_term r (v space x) ≡ u space x)",
+            "pub most_general : (v : Family) → Solves context literals positions v → (r : Substitution) × ((space x : ℕ) → apply_term r (u space 0) ≡ v space 0)",
+        ]),
+    ]),
+    ("IsContextUnifier", "Unifier", [
+        ("pub opposite : AreOpposite context literals (positions_of skip tuple)", ["pub opposite : skip ≡ skip"]),
+        ("pub unifier : IsUnifier context literals (positions_of skip tuple) u", [
+            "pub unifier : skip ≡ skip",
+            "pub unifier : Solves context literals (positions_of skip tuple) u",
+        ]),
+    ]),
+    ("unified", "Unifier", [
+        ("unified u l = apply_literal (u 0) l", [
+            "unified u l = apply_literal (u 1) l",
+            "unified u l = l",
+        ]),
     ]),
     ("remains", "Remainder", [
         ("is_remaining kind Any s = true", ["is_remaining kind Any s = false"]),
@@ -285,11 +389,29 @@ CHANGES = [
         ("remains_at None s = false", ["remains_at None s = true"]),
     ]),
     ("remainder", "Remainder", [
+        ("remainder_from i context [] u = []", ["remainder_from i context [] u = i ∷ []"]),
+        ("let later = remainder_from (i + 1) context ks u in", [
+            "let later = remainder_from i context ks u in",
+            "let later = [] in",
+        ]),
         ("if remains_at (entry_at context k) (u (i + 1)) then i ∷ later else later", ["if remains_at (entry_at context k) (u (i + 1)) then i ∷ [] else later"]),
         ("remainder context positions u = remainder_from 0 context positions u", ["remainder context positions u = remainder_from 1 context positions u"]),
     ]),
     ("IsProductive", "Productive", [
-        ("StandsAgainst context literals positions i l k e → Produces context k e (complement (unified u l))", ["StandsAgainst context literals positions i l k e → Produces context k e (unified u l)"]),
+        ("StandsAgainst context literals positions i l k e → Produces context k e (complement (unified u l))", [
+            "StandsAgainst context literals positions i l k e → Produces context k e (unified u l)",
+            "StandsAgainst context literals positions i l k e → Produces context k e (complement l)",
+            ("StandsAgainst context literals positions i l k e → i ≡ 0 → Produces context k e (complement (unified u l))", "Rattle.std.specs.Prelude.{◌≡◌}"),
+            ("StandsAgainst context literals positions i l k e → i ≡ i", "Rattle.std.specs.Prelude.{◌≡◌}"),
+        ]),
+    ]),
+    ("IsProductiveUnifier", "Productive", [
+        ("pub clause_at : ClauseAt problem c clause", [
+            ("pub clause_at : c ≡ c", "Rattle.std.specs.Prelude.{◌≡◌}"),
+            "pub clause_at : ClauseAt problem 0 clause",
+        ]),
+        ("pub unifier : IsContextUnifier context clause.literals None tuple family", [("pub unifier : c ≡ c", "Rattle.std.specs.Prelude.{◌≡◌}")]),
+        ("pub productive : IsProductive context clause.literals (positions_of None tuple) family", [("pub productive : c ≡ c", "Rattle.std.specs.Prelude.{◌≡◌}")]),
     ]),
     ("Fits", "Fits", [
         ("(literal_depth l ≤ bounds.depth) × (literal_weight l ≤ bounds.weight)", [
@@ -297,6 +419,18 @@ CHANGES = [
             ("(literal_depth l < bounds.depth) × (literal_weight l ≤ bounds.weight)", "Rattle.std.specs.Prelude.{◌<◌}"),
             ("(literal_depth l ≤ bounds.depth) × (literal_weight l < bounds.weight)", "Rattle.std.specs.Prelude.{◌<◌}"),
             "(literal_depth l ≤ bounds.weight) × (literal_weight l ≤ bounds.depth)",
+        ]),
+    ]),
+    ("IsClose", "Close", [
+        ("pub clause_at : ClauseAt problem c clause", [
+            "pub clause_at : c ≡ c",
+            "pub clause_at : ClauseAt problem 0 clause",
+        ]),
+        ("pub unifier : IsContextUnifier context clause.literals None tuple family", ["pub unifier : c ≡ c"]),
+        ("pub no_remainder : remainder context (positions_of None tuple) family ≡ []", [
+            "pub no_remainder : c ≡ c",
+            "pub no_remainder : ¬ (remainder context (positions_of None tuple) family ≡ [])",
+            "pub no_remainder : remainder context [] family ≡ []",
         ]),
     ]),
     ("asserted_kind", "Assert", [
@@ -318,7 +452,9 @@ CHANGES = [
     ("HasVariant", "Assert", [
         ("IsVisible context k e × (e.positive ≡ l.positive) × IsVariant e.atom (Of l.atom)", [
             "IsVisible context k e × (e.positive ≡ e.positive) × IsVariant e.atom (Of l.atom)",
+            ("IsVisible context k e × (e.positive ≡ not l.positive) × IsVariant e.atom (Of l.atom)", "Rattle.std.specs.Prelude.{not}"),
             "IsVisible context k e × (e.positive ≡ l.positive) × Generalizes e.atom (Of l.atom)",
+            "IsVisible context k e × (e.positive ≡ l.positive) × Generalizes (Of l.atom) e.atom",
             "IsVisible context k e × (e.kind ≡ Universal) × (e.positive ≡ l.positive) × IsVariant e.atom (Of l.atom)",
         ]),
     ]),
@@ -332,11 +468,17 @@ CHANGES = [
     ]),
     ("asserted_entry", "Assert", [
         ("  positive = l.positive;\n  atom = Of l.atom;\n  kind = asserted_kind context (positions_of (Some place) tuple) l;\n  reason = Asserted c place tuple;", [
+            ("  positive = not l.positive;\n  atom = Of l.atom;\n  kind = asserted_kind context (positions_of (Some place) tuple) l;\n  reason = Asserted c place tuple;", "Rattle.std.specs.Prelude.{not}"),
+            "  positive = l.positive;\n  atom = Of l.atom;\n  kind = Universal;\n  reason = Asserted c place tuple;",
+            "  positive = l.positive;\n  atom = Of l.atom;\n  kind = Parametric;\n  reason = Asserted c place tuple;",
             "  positive = l.positive;\n  atom = Of l.atom;\n  kind = asserted_kind context (positions_of (Some place) tuple) l;\n  reason = Asserted place c tuple;",
             "  positive = l.positive;\n  atom = Of l.atom;\n  kind = asserted_kind context (positions_of (Some place) tuple) l;\n  reason = Asserted c place [];",
         ]),
     ]),
     ("IsAssert", "Assert", [
+        ("pub clause_at : ClauseAt problem c clause", ["pub clause_at : c ≡ c"]),
+        ("pub literal_at : slice_get clause.literals place ≡ Some literal", ["pub literal_at : c ≡ c"]),
+        ("pub unifier : IsContextUnifier context clause.literals (Some place) tuple family", ["pub unifier : c ≡ c"]),
         ("pub no_remainder : remainder context (positions_of (Some place) tuple) family ≡ []", ["pub no_remainder : c ≡ c"]),
         ("pub allowed : MayAssert bounds context (canonical_literal (unified family literal)) e.kind", ["pub allowed : MayAssert bounds context (canonical_literal (unified family literal)) Parametric"]),
     ]),
@@ -344,6 +486,7 @@ CHANGES = [
         ("split_kind l = if are_ground l.atom.args then Universal else Parametric", [
             "split_kind l = if are_ground l.atom.args then Parametric else Parametric",
             "split_kind l = if are_ground l.atom.args then Universal else Universal",
+            "split_kind l = if are_ground l.atom.args then Parametric else Universal",
         ]),
     ]),
     ("IsSplit", "Split", [
@@ -358,13 +501,25 @@ CHANGES = [
         ("pub split_literal : l ≡ canonical_literal (unified family literal)", ["pub split_literal : l ≡ unified family literal"]),
     ]),
     ("Precedes", "Order", [
-        ("Precedes (x ∷ key) (y ∷ other) = (x < y) ⊎ ((x ≡ y) × Precedes key other)", ["Precedes (x ∷ key) (y ∷ other) = (y < x) ⊎ ((x ≡ y) × Precedes key other)"]),
+        ("Precedes [] other = ⊤", ["Precedes [] [] = ⊥\nPrecedes [] (y ∷ other) = ⊤"]),
+        ("Precedes (x ∷ key) (y ∷ other) = (x < y) ⊎ ((x ≡ y) × Precedes key other)", [
+            "Precedes (x ∷ key) (y ∷ other) = (y < x) ⊎ ((x ≡ y) × Precedes key other)",
+            "Precedes (x ∷ key) (y ∷ other) = (x < y) ⊎ Precedes key other",
+        ]),
     ]),
     ("clause_key", "Order", [
-        ("clause_key c tuple = c ∷ tuple", ["clause_key c tuple = tuple ++ c ∷ []"]),
+        ("clause_key c tuple = c ∷ tuple", [
+            "clause_key c tuple = tuple ++ c ∷ []",
+            "clause_key c tuple = tuple",
+            "clause_key c tuple = c ∷ []",
+        ]),
     ]),
     ("assert_key", "Order", [
-        ("kind_rank Universal = 0", ["kind_rank Universal = 2"]),
+        ("kind_rank Universal = 0", [
+            "kind_rank Universal = 2",
+            "kind_rank Universal = 1",
+        ]),
+        ("pattern_weight (Of a) = 1 + weights a.args", ["pattern_weight (Of a) = 1"]),
         ("assert_key c place tuple e = kind_rank e.kind ∷ pattern_weight e.atom ∷ c ∷ place ∷ tuple", [
             "assert_key c place tuple e = pattern_weight e.atom ∷ kind_rank e.kind ∷ c ∷ place ∷ tuple",
             "assert_key c place tuple e = kind_rank e.kind ∷ pattern_weight e.atom ∷ c ∷ tuple ++ place ∷ []",
@@ -374,8 +529,38 @@ CHANGES = [
         ("split_key c tuple place size l = size ∷ literal_weight l ∷ c ∷ tuple ++ place ∷ []", [
             "split_key c tuple place size l = literal_weight l ∷ size ∷ c ∷ tuple ++ place ∷ []",
             "split_key c tuple place size l = size ∷ literal_weight l ∷ c ∷ place ∷ tuple",
+            "split_key c tuple place size l = literal_weight l ∷ c ∷ tuple ++ place ∷ []",
+            "split_key c tuple place size l = size ∷ c ∷ tuple ++ place ∷ []",
             "split_key c tuple place size l = size ∷ literal_weight l ∷ c ∷ place ∷ []",
         ]),
+    ]),
+    ("IsLeastClose", "Order", [
+        ("IsClose problem context c' tuple' → Precedes (clause_key c tuple) (clause_key c' tuple')", [
+            "IsClose problem context c' tuple' → Precedes (clause_key c' tuple') (clause_key c tuple)",
+            "IsClose problem context c' tuple' → c ≡ c' → Precedes (clause_key c tuple) (clause_key c' tuple')",
+            "IsClose problem context c' tuple' → tuple ≡ tuple' → Precedes (clause_key c tuple) (clause_key c' tuple')",
+            "IsClose problem context c' tuple' → c ≡ c",
+        ]),
+        ("    IsClose problem context c tuple\n", ["    (c ≡ c)\n"]),
+    ]),
+    ("IsLeastAssert", "Order", [
+        ("Precedes (assert_key c place tuple e) (assert_key c' place' tuple' e')", [
+            "Precedes (assert_key c' place' tuple' e') (assert_key c place tuple e)",
+            "e.kind ≡ e'.kind → Precedes (assert_key c place tuple e) (assert_key c' place' tuple' e')",
+            "c ≡ c' → Precedes (assert_key c place tuple e) (assert_key c' place' tuple' e')",
+            "c ≡ c",
+            "Precedes (clause_key c tuple) (clause_key c' tuple')",
+        ]),
+        ("(c place : ℕ) × (tuple : List ℕ) × IsAssert problem bounds context c place tuple e", ["(c place : ℕ) × (tuple : List ℕ) × (c ≡ c)"]),
+    ]),
+    ("IsLeastSplit", "Order", [
+        ("Precedes (split_key c tuple place size l) (split_key c' tuple' place' size' l')", [
+            "Precedes (split_key c' tuple' place' size' l') (split_key c tuple place size l)",
+            "c ≡ c' → Precedes (split_key c tuple place size l) (split_key c' tuple' place' size' l')",
+            "c ≡ c",
+            "Precedes (clause_key c tuple) (clause_key c' tuple')",
+        ]),
+        ("(c place size : ℕ) × (tuple : List ℕ) × IsSplit problem bounds context c place tuple size l", ["(c place size : ℕ) × (tuple : List ℕ) × (c ≡ c)"]),
     ]),
     ("HasRoom", "Next", [
         ("HasRoom bounds context = length context < bounds.literals", [
@@ -408,16 +593,30 @@ CHANGES = [
     ]),
     ("IsFull", "Next", [
         ("IsFull problem bounds context = ¬ HasRoom bounds context × (HasAssert problem bounds context ⊎ HasSplit problem bounds context)", [
+            "IsFull problem bounds context = HasAssert problem bounds context ⊎ HasSplit problem bounds context",
+            "IsFull problem bounds context = HasRoom bounds context × (HasAssert problem bounds context ⊎ HasSplit problem bounds context)",
             "IsFull problem bounds context = ¬ HasRoom bounds context × HasAssert problem bounds context",
             "IsFull problem bounds context = ¬ HasRoom bounds context × HasAssert problem bounds context × HasSplit problem bounds context",
             "IsFull problem bounds context = ¬ HasRoom bounds context × (HasAssert problem bounds context ⊎ HasProductive problem context)",
         ]),
     ]),
     ("IsStopped", "Next", [
-        ("¬ HasAssert problem bounds context × ¬ HasSplit problem bounds context\n", ["HasRoom bounds context × ¬ HasAssert problem bounds context × ¬ HasSplit problem bounds context\n"]),
-        ("× ((l : Literal) × IsFirstRemaining problem context l × IsBeyond b bounds l)", ["× HasProductive problem context"]),
+        ("¬ HasAssert problem bounds context × ¬ HasSplit problem bounds context\n", [
+            "¬ HasSplit problem bounds context\n",
+            "¬ HasAssert problem bounds context\n",
+            "HasRoom bounds context × ¬ HasAssert problem bounds context × ¬ HasSplit problem bounds context\n",
+        ]),
+        ("× ((l : Literal) × IsFirstRemaining problem context l × IsBeyond b bounds l)", [
+            "× ((l : Literal) × IsFirstRemaining problem context l)",
+            "× HasProductive problem context",
+        ]),
     ]),
     ("MeetsBound", "Next", [
+        ("MeetsBound problem bounds context bound.Depth = IsStopped problem bounds context bound.Depth", [
+            "MeetsBound problem bounds context bound.Depth = IsStopped problem bounds context bound.Weight",
+            "MeetsBound problem bounds context bound.Depth = IsStopped problem bounds context bound.Literals",
+        ]),
+        ("MeetsBound problem bounds context bound.Weight = IsStopped problem bounds context bound.Weight", ["MeetsBound problem bounds context bound.Weight = IsStopped problem bounds context bound.Depth"]),
         ("MeetsBound problem bounds context bound.Literals = IsFull problem bounds context", ["MeetsBound problem bounds context bound.Literals = ¬ HasRoom bounds context"]),
         ("MeetsBound problem bounds context bound.List = ⊥", ["MeetsBound problem bounds context bound.List = ¬ HasRoom bounds context"]),
     ]),
@@ -456,7 +655,12 @@ CHANGES = [
         ]),
     ]),
     ("IsGrown", "Grown", [
-        ("started : IsGrown problem bounds positive (start positive)", [("started : IsGrown problem bounds positive (start (not positive))", "Rattle.std.specs.Prelude.{not}")]),
+        ("started : IsGrown problem bounds positive (start positive)", [
+            "started : IsGrown problem bounds positive []",
+            "started : {context : Context} → IsGrown problem bounds positive context",
+            ("started : IsGrown problem bounds positive (start (not positive))", "Rattle.std.specs.Prelude.{not}"),
+        ]),
+        ("IsNext problem bounds context (Assert e) → IsGrown problem bounds positive (add context e)", ["IsNext problem bounds context (Assert e) → IsGrown problem bounds positive context"]),
     ]),
     ("both", "Outcome", [
         ("both (Sat context) right = Sat context", ["both (Sat context) right = right"]),
@@ -471,13 +675,22 @@ CHANGES = [
         ]),
     ]),
     ("HasOutcome", "Outcome", [
-        ("IsNext problem bounds context (Close c tuple) → IsLeafList problem context c tuple list → HasOutcome problem bounds context (Closed list)", [("IsNext problem bounds context (Close c tuple) → IsLeafList problem context c tuple list → HasOutcome problem bounds context (Closed [])", "Rattle.std.specs.Prelude.{[]}")]),
+        ("IsNext problem bounds context (Close c tuple) → IsLeafList problem context c tuple list → HasOutcome problem bounds context (Closed list)", [
+            "IsLeafList problem context c tuple list → HasOutcome problem bounds context (Closed list)",
+            "IsNext problem bounds context (Close c tuple) → HasOutcome problem bounds context (Closed list)",
+            ("IsNext problem bounds context (Close c tuple) → IsLeafList problem context c tuple list → HasOutcome problem bounds context (Closed [])", "Rattle.std.specs.Prelude.{[]}"),
+        ]),
+        ("is_exhausted : {context : Context} → IsNext problem bounds context Exhausted → HasOutcome problem bounds context (Sat context)", ["is_exhausted : {context : Context} → HasOutcome problem bounds context (Sat context)"]),
         ("HasOutcome problem bounds (left_of context l kind) left → HasOutcome problem bounds (right_of context l kind) right → outcome ≡ both left right", ["HasOutcome problem bounds (left_of context l kind) left → HasOutcome problem bounds (right_of context l kind) right → outcome ≡ both right left"]),
     ]),
     ("demands", "LeafList", [
-        ("demands (l ∷ ls) (None ∷ ks) = demands ls ks", ["demands (l ∷ ls) (None ∷ ks) = []"]),
+        ("demands (l ∷ ls) (None ∷ ks) = demands ls ks", [
+            "demands (l ∷ ls) (None ∷ ks) = []",
+            "demands (l ∷ ls) (None ∷ ks) = demands (l ∷ ls) ks",
+        ]),
         ("demands (l ∷ ls) (Some k ∷ ks) = (k, complement l) ∷ demands ls ks", [
             "demands (l ∷ ls) (Some k ∷ ks) = (k, l) ∷ demands ls ks",
+            "demands (l ∷ ls) (Some k ∷ ks) = demands ls ks ++ (k, complement l) ∷ []",
             "demands (l ∷ ls) (Some k ∷ ks) = (k, complement l) ∷ []",
         ]),
     ]),
@@ -492,6 +705,8 @@ CHANGES = [
         ]),
     ]),
     ("Adds", "LeafList", [
+        ("none_waits : {before : List Demand} → Adds problem context before [] []", ["none_waits : {before waiting : List Demand} → Adds problem context before waiting []"]),
+        ("AddsNothing context before d → Adds problem context before waiting list → Adds problem context before (d ∷ waiting) list", ["Adds problem context before waiting list → Adds problem context before (d ∷ waiting) list"]),
         ("Adds problem context (d ∷ before) (waiting ++ demands literals (positions_of (Some place) tuple)) list", [
             "Adds problem context (d ∷ before) (demands literals (positions_of (Some place) tuple) ++ waiting) list",
             "Adds problem context (d ∷ before) (waiting ++ demands literals (positions_of None tuple)) list",
@@ -507,14 +722,21 @@ CHANGES = [
         ]),
     ]),
     ("constant, instance_of", "ListedInstances", [
-        ("instance_of family reading literals = map (λ l. apply_literal reading (unified family l)) literals", ["instance_of family reading literals = map (λ l. apply_literal reading l) literals"]),
+        ("constant f = App f Nil", ["constant f = App 0 Nil"]),
+        ("instance_of family reading literals = map (λ l. apply_literal reading (unified family l)) literals", [
+            "instance_of family reading literals = map (λ l. unified family l) literals",
+            "instance_of family reading literals = map (λ l. apply_literal reading l) literals",
+            "instance_of family reading literals = map (λ l. apply_literal reading (apply_literal reading (unified family l))) literals",
+        ]),
     ]),
     ("IsClosingInstance", "ListedInstances", [
         ("pub is_instance : literals ≡ instance_of family (λ x. constant problem.c0) clause.literals", [
             "pub is_instance : literals ≡ instance_of family (λ x. constant 0) clause.literals",
             "pub is_instance : literals ≡ instance_of family (λ x. constant c) clause.literals",
             "pub is_instance : (reading : Substitution) × (literals ≡ instance_of family reading clause.literals)",
+            "pub is_instance : c ≡ c",
         ]),
+        ("pub unifier : IsUnifier context clause.literals (positions_of None tuple) family", ["pub unifier : c ≡ c"]),
     ]),
     ("IsAskedInstance", "ListedInstances", [
         ("pub matches : apply_literal matching (unified family literal) ≡ asked", [
@@ -581,6 +803,10 @@ CHANGES = [
         ]),
     ]),
     ("IsGroundInstance", "GroundInstances", [
+        ("(clause : ClauseValue) × (s : Substitution) × ClauseAt problem c clause\n", [
+            "(clause : ClauseValue) × (s : Substitution) × (c ≡ c)\n",
+            "(clause : ClauseValue) × (s : Substitution) × ClauseAt problem 0 clause\n",
+        ]),
         ("× ((x : ℕ) → IsTrue (is_ground_term problem (s x)))", [
             "× ((x : ℕ) → s x ≡ s x)",
             "× IsTrue (is_ground_term problem (s 0))",
@@ -604,7 +830,11 @@ CHANGES = [
         ]),
     ]),
     ("IsLawful", "Validity", [
-        ("pub depth : (1 ≤ bounds.depth) × (bounds.depth ≤ 64)", ["pub depth : bounds.depth ≤ 64"]),
+        ("pub depth : (1 ≤ bounds.depth) × (bounds.depth ≤ 64)", [
+            "pub depth : bounds.depth ≤ 64",
+            "pub depth : 1 ≤ bounds.depth",
+            "pub depth : (1 ≤ bounds.depth) × (bounds.depth ≤ 65)",
+        ]),
         ("pub literals : (1 ≤ bounds.literals) × (bounds.literals ≤ 65535)", ["pub literals : (1 ≤ bounds.literals) × (bounds.literals ≤ 65536)"]),
         ("pub list : (1 ≤ bounds.list) × (bounds.list ≤ 50000000)", ["pub list : 1 ≤ bounds.list"]),
     ]),
