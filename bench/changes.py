@@ -206,20 +206,24 @@ CHANGES = [
             "(k : ℕ) (e : EntryValue) → (k ≡ k) → StandsAt context k e → IsLiteralEntry e",
         ]),
     ]),
+    ("Covers", "Context", [
+        ("pub is_universal : universal.kind ≡ Universal", [
+            "pub is_universal : universal.kind ≡ Parametric",
+            "pub is_universal : entry.kind ≡ Universal",
+        ]),
+        ("pub same_sign : universal.positive ≡ entry.positive", [
+            "pub same_sign : universal.positive ≡ universal.positive",
+            ("pub same_sign : universal.positive ≡ not entry.positive", "Rattle.std.specs.Prelude.{not}"),
+        ]),
+        ("pub generalizes : Generalizes universal.atom entry.atom", [
+            "pub generalizes : Generalizes entry.atom universal.atom",
+            ("pub generalizes : IsStrictlyMoreGeneral universal.atom entry.atom", "Rattle.me_terms.specs.Substitutions.{IsStrictlyMoreGeneral}"),
+        ]),
+    ]),
     ("Hides", "Context", [
         ("pub is_later : k < j", ["pub is_later : j < k"]),
-        ("pub universal : later.kind ≡ Universal", [
-            "pub universal : later.kind ≡ Parametric",
-            "pub universal : e.kind ≡ Universal",
-        ]),
-        ("pub same_sign : later.positive ≡ e.positive", [
-            "pub same_sign : later.positive ≡ later.positive",
-            ("pub same_sign : later.positive ≡ not e.positive", "Rattle.std.specs.Prelude.{not}"),
-        ]),
-        ("pub generalizes : Generalizes later.atom e.atom", [
-            "pub generalizes : Generalizes e.atom later.atom",
-            ("pub generalizes : IsStrictlyMoreGeneral later.atom e.atom", "Rattle.me_terms.specs.Substitutions.{IsStrictlyMoreGeneral}"),
-        ]),
+        ("pub stands : StandsAt context j later", ["pub stands : StandsAt context k later"]),
+        ("pub covers : Covers later e", ["pub covers : Covers e later"]),
     ]),
     ("IsHidden, IsVisible", "Context", [
         ("IsHidden context k e = (j : ℕ) × (later : EntryValue) × Hides context k e j later", [
@@ -636,11 +640,12 @@ CHANGES = [
             "¬ HasClose problem context × ¬ HasProductive problem context",
         ]),
     ]),
-    ("start, split_entry, left_of, right_of", "Grown", [
-        ("start positive = pseudo positive ∷ []", [
-            "start positive = []",
-            ("start positive = pseudo (not positive) ∷ []", "Rattle.std.specs.Prelude.{not}"),
-            ("start positive = pseudo false ∷ []", "Rattle.std.specs.Prelude.{false}"),
+    ("sign_of, start, split_entry, left_of, right_of", "Grown", [
+        ("sign_of choice.Negative = false", ["sign_of choice.Negative = true"]),
+        ("sign_of choice.Positive = true", ["sign_of choice.Positive = false"]),
+        ("start begins = pseudo (sign_of begins) ∷ []", [
+            "start begins = []",
+            ("start begins = pseudo (not (sign_of begins)) ∷ []", "Rattle.std.specs.Prelude.{not}"),
         ]),
         ("split_entry l kind why = record { positive = l.positive; atom = Of l.atom; kind = kind; reason = why }", [
             ("split_entry l kind why = record { positive = l.positive; atom = Of l.atom; kind = Parametric; reason = why }", "Rattle.me_terms.specs.declared.entry.Kind.TheVariants.{Parametric}"),
@@ -655,12 +660,12 @@ CHANGES = [
         ]),
     ]),
     ("IsGrown", "Grown", [
-        ("started : IsGrown problem bounds positive (start positive)", [
-            "started : IsGrown problem bounds positive []",
-            "started : {context : Context} → IsGrown problem bounds positive context",
-            ("started : IsGrown problem bounds positive (start (not positive))", "Rattle.std.specs.Prelude.{not}"),
+        ("started : IsGrown problem bounds (start bounds.start)", [
+            "started : IsGrown problem bounds []",
+            "started : {context : Context} → IsGrown problem bounds context",
+            "started : IsGrown problem bounds (start choice.Negative)",
         ]),
-        ("IsNext problem bounds context (Assert e) → IsGrown problem bounds positive (add context e)", ["IsNext problem bounds context (Assert e) → IsGrown problem bounds positive context"]),
+        ("IsNext problem bounds context (Assert e) → IsGrown problem bounds (add context e)", ["IsNext problem bounds context (Assert e) → IsGrown problem bounds context"]),
     ]),
     ("both", "Outcome", [
         ("both (Sat context) right = Sat context", ["both (Sat context) right = right"]),
@@ -779,6 +784,26 @@ CHANGES = [
             "answer_of bounds (Closed list) = if nat_le (list_weight list) bounds.literals then Unsatisfiable list else GaveUp bound.List",
         ]),
         ("answer_of bounds (Met b) = GaveUp b", ["answer_of bounds (Met b) = GaveUp bound.List"]),
+        ("HasOutcome problem bounds (start bounds.start) outcome", [("HasOutcome problem bounds (start Negative) outcome", "Rattle.me_terms.specs.declared.bounds.Start.TheVariants.{Negative}")]),
+    ]),
+    ("at_depth", "Deepening", [
+        ("record { depth = depth;", ["record { depth = bounds.depth;"]),
+        ("start = bounds.start }", [("start = Negative }", "Rattle.me_terms.specs.declared.bounds.Start.TheVariants.{Negative}")]),
+    ]),
+    ("StopsAt", "Deepening", [
+        ("pub begun : from ≤ depth", ["pub begun : from ≤ from"]),
+        ("pub within : depth ≤ bounds.depth", ["pub within : from ≤ bounds.depth"]),
+        ("(e : ℕ) → from ≤ e → e < depth → HasAnswer problem (at_depth bounds e) (GaveUp bound.Depth)", [
+            "(e : ℕ) → from ≤ e → e < depth → from ≤ e",
+            "(e : ℕ) → e < depth → HasAnswer problem (at_depth bounds e) (GaveUp bound.Depth)",
+            "(e : ℕ) → from ≤ e → e < depth → HasAnswer problem (at_depth bounds e) (GaveUp bound.Weight)",
+        ]),
+        ("HasAnswer problem (at_depth bounds depth) reply", ["HasAnswer problem bounds reply"]),
+        ("¬ (reply ≡ GaveUp bound.Depth) ⊎ (depth ≡ bounds.depth)", [
+            "¬ (reply ≡ GaveUp bound.Weight) ⊎ (depth ≡ bounds.depth)",
+            "¬ (reply ≡ GaveUp bound.Depth)",
+            "depth ≡ bounds.depth",
+        ]),
     ]),
     ("IsFalseUnder, IsRefuted", "Refuted", [
         ("IsFalseUnder value l = value l.atom ≡ not l.positive", [
@@ -830,13 +855,14 @@ CHANGES = [
         ]),
     ]),
     ("IsLawful", "Validity", [
-        ("pub depth : (1 ≤ bounds.depth) × (bounds.depth ≤ 64)", [
-            "pub depth : bounds.depth ≤ 64",
+        ("pub depth : (1 ≤ bounds.depth) × (bounds.depth ≤ MAX_DEPTH)", [
+            "pub depth : bounds.depth ≤ MAX_DEPTH",
             "pub depth : 1 ≤ bounds.depth",
             "pub depth : (1 ≤ bounds.depth) × (bounds.depth ≤ 65)",
         ]),
-        ("pub literals : (1 ≤ bounds.literals) × (bounds.literals ≤ 65535)", ["pub literals : (1 ≤ bounds.literals) × (bounds.literals ≤ 65536)"]),
-        ("pub list : (1 ≤ bounds.list) × (bounds.list ≤ 50000000)", ["pub list : 1 ≤ bounds.list"]),
+        ("pub weight : (1 ≤ bounds.weight) × (bounds.weight ≤ MAX_WEIGHT)", ["pub weight : (1 ≤ bounds.weight) × (bounds.weight ≤ MAX_LIST)"]),
+        ("pub literals : (1 ≤ bounds.literals) × (bounds.literals ≤ MAX_ENTRIES)", ["pub literals : (1 ≤ bounds.literals) × (bounds.literals ≤ 65536)"]),
+        ("pub list : (1 ≤ bounds.list) × (bounds.list ≤ MAX_LIST)", ["pub list : 1 ≤ bounds.list"]),
     ]),
     ("IsModel", "InducedModel", [
         ("IsGroundInstance problem c literals → Any (IsTrueIn context) literals", [

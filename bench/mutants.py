@@ -1,7 +1,9 @@
 #!/usr/bin/env python3
 """Changes the definitions of the calculus, one at a time, and tells which laws and examples are no longer proved.
 
-usage: bench/mutants.py COPY KEPT [FIRST [LAST]]
+usage: bench/mutants.py COPY [KEPT [FIRST [LAST]]]
+
+With COPY alone nothing is tried: told are the changes whose text no longer stands in its file once.
 
 COPY is a clone of this repository, which is changed and put back. KEPT is a folder for what its check keeps, made
 where it is not there: the first check takes some minutes, and the check of a change some 10 to 60 seconds. The
@@ -22,7 +24,7 @@ sys.dont_write_bytecode = True
 from changes import CHANGES  # noqa: E402
 
 # The examples are checked over all these, which are read as source, in one run that checks again only what a change reaches.
-BELOW = ["me_terms", "me_laws", "me_refutation", "me_counting", "me_existence"]
+BELOW = ["me_terms", "me_laws", "me_laws_refutation", "me_laws_counting", "me_laws_existence"]
 OF_KIT = ["core", "std", "indexmap", "smallvec"]
 
 
@@ -37,22 +39,41 @@ def each_change():
 def check(copy, kept):
     """Whether all is proved (None: there is no verdict), and what the check wrote."""
     kit = os.path.dirname(subprocess.run(["rt", "doc"], capture_output=True, text=True, check=True).stdout.strip())
-    words = [f"{kit}/bin/rattle", "check", "--crate-name", "me_examples", "src/lib.rt", "-L", f"dependency={kit}/rlibs"]
+    words = [f"{kit}/bin/rattle", "check", "--crate-name", "me_laws_examples", "src/lib.rt", "-L", f"dependency={kit}/rlibs"]
     for name in OF_KIT:
         words += ["--extern", f"{name}={kit}/rlibs/{name}.rlib"]
     for name in BELOW:
         words += ["--lib", f"{name}={copy}/crates/{name}/src/lib.rt"]
     words += ["--antt-project", f"{kit}/rattle/logic/antt-project.json", "--logic-built", f"{kit}/logic_built"]
     words += ["--incremental", kept]
-    done = subprocess.run(words, cwd=f"{copy}/crates/me_examples", capture_output=True, text=True)
+    done = subprocess.run(words, cwd=f"{copy}/crates/me_laws_examples", capture_output=True, text=True)
     return {0: True, 1: False}.get(done.returncode), done.stdout + done.stderr
+
+
+def path_of(copy, file):
+    """Where a file of definitions stands in the copy."""
+    return f"{copy}/crates/me_terms/specs/{file}.antt"
+
+
+def text_of(path):
+    """The text of a file of definitions."""
+    with open(path, encoding="utf-8") as definition:
+        return definition.read()
+
+
+def tell_gone(copy, changes):
+    """Writes the changes whose text does not stand in its file once. The status: 1 where there are any."""
+    gone = [(number, file, old) for number, (_, file, old, _, _) in enumerate(changes) if text_of(path_of(copy, file)).count(old) != 1]
+    for number, file, old in gone:
+        print(f"{number} {file}: the text no longer stands there once: {old}")
+    print(f"{len(changes)} changes, {len(gone)} of them without their text")
+    return min(len(gone), 1)
 
 
 def tried(copy, kept, file, old, new, imported):
     """What the check says with the change in place."""
-    path = f"{copy}/crates/me_terms/specs/{file}.antt"
-    with open(path, encoding="utf-8") as definition:
-        text = definition.read()
+    path = path_of(copy, file)
+    text = text_of(path)
     if text.count(old) != 1:
         return f"the text no longer stands there once: {old}"
     changed = text.replace(old, new)
@@ -73,12 +94,15 @@ def tried(copy, kept, file, old, new, imported):
         return f"DOES NOT READ: {unread[0]}"
     if proved is None:
         return f"NO VERDICT: {said}"
-    return "NOT REFUSED" if proved else "refused: " + " ".join(re.findall(r"^fn (?:me_examples::)?(\S+): (?!proved)", said, re.M))
+    return "NOT REFUSED" if proved else "refused: " + " ".join(re.findall(r"^fn (?:me_laws_examples::)?(\S+): (?!proved)", said, re.M))
 
 
 def main():
-    copy, kept = os.path.abspath(sys.argv[1]), os.path.abspath(sys.argv[2])
+    copy = os.path.abspath(sys.argv[1])
     changes = list(each_change())
+    if len(sys.argv) == 2:
+        sys.exit(tell_gone(copy, changes))
+    kept = os.path.abspath(sys.argv[2])
     first = int(sys.argv[3]) if len(sys.argv) > 3 else 0
     last = int(sys.argv[4]) if len(sys.argv) > 4 else len(changes) - 1
     if not check(copy, kept)[0]:

@@ -25,8 +25,8 @@ use Rattle.me_unify.specs.Equations.{IsMostGeneral}
 use Rattle.joint_unifiers.specs.ClauseUnifiers.{UnifierValue, IsUnifierOf}
 use Rattle.joint_unifiers.proofs.CanonicalMeasures.{canonical_weight, canonical_ground}
 use Rattle.joint_unifiers.proofs.Fitting.{fitting_weight, canonical_fits, fits_canonical}
-use Rattle.assert_rule.specs.AssertOrder.{IsBeforeBest, ComesBefore}
-use Rattle.assert_rule.specs.AssertedEntries.{Asserts, AssertsBy, IsNew}
+use Rattle.assert_rule.specs.AssertOrder.{IsBeforeBest, ComesBeforeBest}
+use Rattle.assert_rule.specs.AssertedEntries.{Asserts, AssertsBy, MayBeAsserted}
 
 -- ---- the literal of a place
 pub at_within : (literals : List Literal) (place : ℕ) → place < length literals → (l : Literal) × (slice_get literals place ≡ Some l)
@@ -66,7 +66,7 @@ module _ (u : UnifierValue) (bounds : Bounds) (context : Context) (c place : ℕ
   must_fit = fits_canonical bounds (unified a.family a.literal) a.allowed.fits
 
   -- it comes before the best one where its kind and weight do
-  pub must_be_before : (kind : Kind) (weight : ℕ) (best : Option EntryValue) → IsLawful bounds → kind ≡ asserted_kind context (positions_of (Some place) u.tuple) (canonical_literal (unified a.family a.literal)) → weight ≡ capped (literal_weight (unified a.family a.literal)) → ComesBefore e best → IsBeforeBest kind weight best
+  pub must_be_before : (kind : Kind) (weight : ℕ) (best : Option EntryValue) → IsLawful bounds → kind ≡ asserted_kind context (positions_of (Some place) u.tuple) (canonical_literal (unified a.family a.literal)) → weight ≡ capped (literal_weight (unified a.family a.literal)) → ComesBeforeBest e best → IsBeforeBest kind weight best
   must_be_before kind weight best lawful kind_of heavy better =
       let same_kind : e.kind ≡ kind = ap (λ (x : EntryValue). x.kind) a.entry ∙ sym kind_of in
       let exact : weight ≡ literal_weight (unified a.family a.literal) = fitting_weight bounds (unified a.family a.literal) weight lawful heavy must_fit in
@@ -75,12 +75,12 @@ module _ (u : UnifierValue) (bounds : Bounds) (context : Context) (c place : ℕ
       subst P (λ i. (same_kind i, same_weight i)) better
 
   -- its literal is new
-  pub must_be_new : (kind : Kind) (l : Literal) → kind ≡ asserted_kind context (positions_of (Some place) u.tuple) (canonical_literal (unified a.family a.literal)) → l ≡ canonical_literal (unified a.family a.literal) → IsNew context l kind
+  pub must_be_new : (kind : Kind) (l : Literal) → kind ≡ asserted_kind context (positions_of (Some place) u.tuple) (canonical_literal (unified a.family a.literal)) → l ≡ canonical_literal (unified a.family a.literal) → MayBeAsserted context l kind
   must_be_new kind l kind_of is =
       let same_kind : e.kind ≡ kind = ap (λ (x : EntryValue). x.kind) a.entry ∙ sym kind_of in
-      let new : IsNew context (canonical_literal (unified a.family a.literal)) e.kind = record { consistent = a.allowed.consistent; not_subsumed = a.allowed.not_subsumed; no_variant = a.allowed.no_variant } in
+      let new : MayBeAsserted context (canonical_literal (unified a.family a.literal)) e.kind = record { consistent = a.allowed.consistent; not_subsumed = a.allowed.not_subsumed; no_variant = a.allowed.no_variant } in
       let same_literal = sym is in
-      let P : Literal × Kind → Type 0 = λ z. IsNew context z.0 z.1 in
+      let P : Literal × Kind → Type 0 = λ z. MayBeAsserted context z.0 z.1 in
       subst P (λ i. (same_literal i, same_kind i)) new
 
 -- ---- what is written out
@@ -88,9 +88,9 @@ abbrev pub written : Literal → Kind → ℕ → ℕ → List ℕ → EntryValu
 written l kind c place tuple = record { positive = l.positive; atom = Of l.atom; kind = kind; reason = Asserted c place tuple }
 
 pub asserted : (u : UnifierValue) (bounds : Bounds) (context : Context) (c place : ℕ) (literal : Literal) (f : Family) (l : Literal) (kind : Kind) → slice_get u.literals place ≡ Some literal → IsMostGeneral u.equations f → u.remainder ≡ [] → Fits bounds (unified f literal)
-    → l ≡ canonical_literal (unified f literal) → kind ≡ asserted_kind context (positions_of (Some place) u.tuple) (canonical_literal (unified f literal)) → IsNew context l kind → AssertsBy u bounds context c place (written l kind c place u.tuple)
+    → l ≡ canonical_literal (unified f literal) → kind ≡ asserted_kind context (positions_of (Some place) u.tuple) (canonical_literal (unified f literal)) → MayBeAsserted context l kind → AssertsBy u bounds context c place (written l kind c place u.tuple)
 asserted u bounds context c place literal f l kind at general none fits is kind_of new =
-    let P : Literal → Type 0 = λ m. IsNew context m kind in
+    let P : Literal → Type 0 = λ m. MayBeAsserted context m kind in
     let moved = subst P is new in
     record {
       literal = literal;

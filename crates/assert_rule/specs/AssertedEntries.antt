@@ -32,16 +32,16 @@ pub record AssertsBy (u : UnifierValue) (bounds : Bounds) (context : Context) (c
   pub allowed : MayAssert bounds context (canonical_literal (unified family literal)) e.kind
 
 -- The entry, where it is visible, makes an Assert of the literal with this kind needless: it is Universal and generalizes the literal, or the literal is to be Parametric and is its variant.
-abbrev pub Covers : EntryValue → Literal → Kind → Type 0
-Covers e l kind =
+abbrev pub MakesNeedless : EntryValue → Literal → Kind → Type 0
+MakesNeedless e l kind =
     (e.positive ≡ l.positive) × (((e.kind ≡ Universal) × Generalizes e.atom (Of l.atom)) ⊎ ((kind ≡ Parametric) × IsVariant e.atom (Of l.atom)))
 
 -- At position k an entry is visible that does.
 abbrev pub CoversAt : Context → ℕ → Literal → Kind → Type 0
-CoversAt context k l kind = (e : EntryValue) × IsVisible context k e × Covers e l kind
+CoversAt context k l kind = (e : EntryValue) × IsVisible context k e × MakesNeedless e l kind
 
 -- The literal may be asserted with this kind, as far as the entries of the context say.
-pub record IsNew (context : Context) (l : Literal) (kind : Kind) : Type 0 where
+pub record MayBeAsserted (context : Context) (l : Literal) (kind : Kind) : Type 0 where
   pub consistent : ¬ IsContradictory context l kind
   pub not_subsumed : ¬ IsSubsumed context l
   pub no_variant : kind ≡ Parametric → ¬ HasVariant context l

@@ -5,7 +5,7 @@ ghost use Rattle.me_terms.specs.Values.{ProblemValue, EntryValue};
 ghost use Rattle.me_terms.specs.Positions.{ClauseAt, positions_of, AreOpposite};
 ghost use Rattle.me_terms.specs.Validity.{IsLawful};
 ghost use Rattle.me_terms.specs.Assert.{IsAssert};
-ghost use Rattle.assert_rule.specs.AssertOrder.{IsBeforeBest, ComesBefore};
+ghost use Rattle.assert_rule.specs.AssertOrder.{IsBeforeBest, ComesBeforeBest};
 ghost use Rattle.assert_rule.specs.AssertedEntries.{Asserts, AssertsBy};
 
 use crate::candidate::Candidate;
@@ -39,8 +39,8 @@ fn assert_by<V: View>(
     requires place { place < length unifier.now.literals }
     requires bounds { IsLawful bounds.now }
     ensures some { IfOk result (λ r. IfSome r (AssertsBy unifier.now bounds.now (V.context view.now) index place)) }
-    ensures before { IfOk result (λ r. IfSome r (λ e. ComesBefore e (option_copied best.entry))) }
-    ensures none { IfOk result (λ r. IfNone r ((e : EntryValue) → AssertsBy unifier.now bounds.now (V.context view.now) index place e → ¬ ComesBefore e (option_copied best.entry))) }
+    ensures before { IfOk result (λ r. IfSome r (λ e. ComesBeforeBest e (option_copied best.entry))) }
+    ensures none { IfOk result (λ r. IfNone r ((e : EntryValue) → AssertsBy unifier.now bounds.now (V.context view.now) index place e → ¬ ComesBeforeBest e (option_copied best.entry))) }
 {
     if !unifier.remainder().is_empty() {
         return Ok(None);
@@ -82,8 +82,8 @@ pub fn assert_before<V: View>(
     requires few { length clause.now.literals < 2 ^ 32 - 1 }
     requires bounds { IsLawful bounds.now }
     ensures some { IfOk result (λ r. IfSome r (Asserts bounds.now (V.context view.now) clause.now index place tuple.now.items)) }
-    ensures before { IfOk result (λ r. IfSome r (λ e. ComesBefore e (option_copied best.entry))) }
-    ensures none { IfOk result (λ r. IfNone r ((problem : ProblemValue) (e : EntryValue) → ClauseAt problem index clause.now → IsAssert problem bounds.now (V.context view.now) index place tuple.now.items e → ¬ ComesBefore e (option_copied best.entry))) }
+    ensures before { IfOk result (λ r. IfSome r (λ e. ComesBeforeBest e (option_copied best.entry))) }
+    ensures none { IfOk result (λ r. IfNone r ((problem : ProblemValue) (e : EntryValue) → ClauseAt problem index clause.now → IsAssert problem bounds.now (V.context view.now) index place tuple.now.items e → ¬ ComesBeforeBest e (option_copied best.entry))) }
 {
     match joint_unifier(alloc, clause, Some(place), tuple, view)? {
         Some(unifier) => Ok(assert_by(alloc, &unifier, index, place, view, bounds, best)?),

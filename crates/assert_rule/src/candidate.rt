@@ -4,7 +4,7 @@ ghost use Rattle.me_terms.specs.Measures.{literal_weight};
 ghost use Rattle.me_terms.specs.Order.{pattern_weight};
 ghost use Rattle.me_terms.specs.Values as pure;
 ghost use Rattle.me_terms.specs.declared.atom.Pattern.TheVariants as pattern;
-ghost use Rattle.assert_rule.specs.AssertOrder.{IsBefore};
+ghost use Rattle.assert_rule.specs.AssertOrder.{IsAssertedBefore};
 
 use crate::ranks::rank_of;
 use me_terms::{Entry, Kind, Literal, Pattern, Reason, Tuple};
@@ -86,7 +86,7 @@ impl Candidate {
 
     /// Whether it comes after what has this kind and weight: by kind, Universal first, and then weight.
     pub(crate) fn is_after(&self, kind: Kind, weight: u64) -> bool
-        ensures { IsTrue result ↔ IsBefore kind weight self.now.kind (pattern_weight self.now.atom) }
+        ensures { IsTrue result ↔ IsAssertedBefore kind weight self.now.kind (pattern_weight self.now.atom) }
     {
         let rank = rank_of(kind);
         let own = rank_of(self.entry.kind);

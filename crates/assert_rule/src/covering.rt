@@ -2,7 +2,7 @@
 ghost use Rattle.std.specs.Prelude.{◌≡◌, ℕ, ◌<◌, ◌⊎◌, length, IfOk, IsTrue, ◌↔◌};
 ghost use Rattle.me_terms.specs.Substitutions.{Generalizes, IsVariant};
 ghost use Rattle.me_terms.specs.declared.atom.Pattern.TheVariants as pattern;
-ghost use Rattle.assert_rule.specs.AssertedEntries.{Covers, CoversAt, IsNew};
+ghost use Rattle.assert_rule.specs.AssertedEntries.{MakesNeedless, CoversAt, MayBeAsserted};
 
 use joint_unifiers::is_contradictory;
 use me_terms::{Entry, Kind, Literal, View, is_variant_of, matches};
@@ -10,7 +10,7 @@ use std::alloc::{AllocError, Global};
 
 /// Whether the entry, where it is visible, makes an Assert of the literal with that kind needless.
 fn covers(entry: &Entry, lit: &Literal, kind: Kind) -> bool
-    ensures { IsTrue result ↔ Covers entry.now lit.now kind }
+    ensures { IsTrue result ↔ MakesNeedless entry.now lit.now kind }
 {
     entry.positive == lit.positive
         && ((entry.kind == Kind::Universal && matches(&entry.atom, &lit.atom))
@@ -46,7 +46,7 @@ pub(crate) fn is_new<V: View>(
     lit: &Literal,
     kind: Kind,
 ) -> Result<bool, AllocError>
-    ensures { IfOk result (λ answer. IsTrue answer ↔ IsNew (V.context view.now) lit.now kind) }
+    ensures { IfOk result (λ answer. IsTrue answer ↔ MayBeAsserted (V.context view.now) lit.now kind) }
 {
     if is_contradictory(alloc, view, lit, kind)? {
         return Ok(false);

@@ -227,12 +227,12 @@ lacking_loses n filled (after_closed {list = list} later) = ap (total_with n (Al
 lacking_loses n filled (after_bounded {b = b} later) = ap (total_with n (HasBound b)) (lacking_loses n _ later)
 
 pub answer_from : WholeCutsFollowSat → WholeRecordsAnswer
-answer_from follow problem bounds positive records root filled whole is_in is_root h found =
+answer_from follow problem bounds records root filled whole is_in is_root h found =
     let search = whole.0 in
     let once = search_once whole.1 in
     let x = total_agrees search once bounds.list whole.2.0 whole.2.1 records whole.2.2 root filled is_in is_root h in
-    let follows = follow problem bounds positive records root filled whole is_in is_root h in
-    elim (decides_weighed bounds x.0 (outcome_of search) x.1) as (λ _. (reply : AnswerValue) × Decides (total_of bounds.list filled) reply × HasAnswer problem bounds positive reply) [
+    let follows = follow problem bounds records root filled whole is_in is_root h in
+    elim (decides_weighed bounds x.0 (outcome_of search) x.1) as (λ _. (reply : AnswerValue) × Decides (total_of bounds.list filled) reply × HasAnswer problem bounds reply) [
       | inl lost ↦ absurd (found (lost_total bounds.list filled (filled_own h) follows (x.2 ∙ lost)))
       | inr d ↦ (
         answer_of bounds (outcome_of search),

@@ -1,6 +1,6 @@
 -- Whole records can be put together.
 use Rattle.std.proofs.Common.{◌≡◌, List, Some, slice_get, sym, subst, ap, ◌∙◌}
-use Rattle.branch_core.specs.Paths.{Turns, ProperlyExtends}
+use Rattle.branch_core.specs.Paths.{Turns, ProperlyBegins}
 use Rattle.branch_core.specs.Parts.{PartValue, RecordValue}
 use Rattle.branch_core.specs.Parts as part
 use Rattle.branch_core.specs.Pieces.{Piece, Gift}
@@ -12,7 +12,7 @@ use Rattle.branch_core.proofs.Filling.{map_get}
 use Rattle.branch_core.proofs.CutsFollow.{whole_cuts_follow}
 
 pub whole_can : WholeCanAssemble
-whole_can problem bounds positive records whole =
+whole_can problem bounds records whole =
     let n = bounds.list in
     let accounts = whole.2.0 in
     let are = whole.2.2 in
@@ -40,7 +40,7 @@ whole_can problem bounds positive records whole =
           w.once a.0 b.0 j k a.1.1 b.1.1 (ap (λ (z : RecordValue). z.path) (sym a.2) ∙ (e ∙ ap (λ (z : RecordValue). z.path) b.2));
       extends = λ r gift h g.
           let a = back r h in
-          let P : Turns → Type 0 = λ t. ProperlyExtends gift t in
+          let P : Turns → Type 0 = λ t. ProperlyBegins t gift in
           subst P (ap (λ (z : RecordValue). z.path) (sym a.2)) (w.extends a.0 gift a.1 (given r a.0 gift a.2 g));
-      cuts = λ r filled h e f. whole_cuts_follow problem bounds positive records r filled whole h e f;
+      cuts = λ r filled h e f. whole_cuts_follow problem bounds records r filled whole h e f;
     }

@@ -5,7 +5,7 @@ use Rattle.std.proofs.Math.Nat.{one-le-pow, pow-le-pow_right, mod-eq_of_lt}
 use Rattle.branch_core.specs.Paths.{Turns, code, code_from, bit}
 use Rattle.branch_core.specs.PathLaws.{code_from_above, double}
 use Rattle.branch_core.specs.Core.{StateValue, Unknown, Offered, Held, Ended, first_states, first_core, with_state}
-use Rattle.branch_core.specs.CoreTable.{found, state_at, may_end, not_ended, CoreTable, core_value, HasRoom}
+use Rattle.branch_core.specs.CoreTable.{state_or_unknown, state_at, may_end, not_ended, CoreTable, core_value, HasTableRoom}
 use Rattle.branch_core.specs.EventViews.{state_value}
 use Rattle.branch_core.specs.Parts.{RecordValue}
 use Rattle.branch_core.specs.declared.event.PathState.{PathState}
@@ -14,7 +14,7 @@ use Rattle.branch_core.proofs.PathOrder.{codes_injective, bits_below}
 use Rattle.branch_core.proofs.Orderly.{state_here, turns_cases}
 
 -- ---- the first table
-all_unknown : (n k : ℕ) → found (slice_get (replicate n Unknown) k) ≡ Unknown
+all_unknown : (n k : ℕ) → state_or_unknown (slice_get (replicate n Unknown) k) ≡ Unknown
 all_unknown zero zero = refl
 all_unknown zero (suc k) = refl
 all_unknown (suc n) zero = refl
@@ -26,7 +26,7 @@ below_root turn turns =
     let low : code_from (2 + bit turn) turns ≡ (2 + bit turn) * 2 ^ length turns + code_from 0 turns = code_from_above (2 + bit turn) turns in
     let goal : 2 ≤ code_from (2 + bit turn) turns = omega (arith, low, some) in goal
 
-later : (n k : ℕ) → 2 ≤ k → found (slice_get (slice_set (replicate (suc (suc n)) Unknown) 1 Offered) k) ≡ Unknown
+later : (n k : ℕ) → 2 ≤ k → state_or_unknown (slice_get (slice_set (replicate (suc (suc n)) Unknown) 1 Offered) k) ≡ Unknown
 later n zero h = absurd (omega arith)
 later n (suc zero) h = absurd (omega arith)
 later n (suc (suc k)) h = all_unknown n k
@@ -66,12 +66,12 @@ pub table_set : (table : List StateValue) (path : Turns) (s : StateValue) → co
 table_set table path s h turns =
     elim (turns_cases path turns) as (λ _. state_at (slice_set table (code path) s) turns ≡ with_state (state_at table) path s turns) [
       | inl x ↦
-          let here : state_at (slice_set table (code path) s) path ≡ s = ap found (get_same table (code path) s h) in
+          let here : state_at (slice_set table (code path) s) path ≡ s = ap state_or_unknown (get_same table (code path) s h) in
           let there : with_state (state_at table) path s path ≡ s = state_here (state_at table) path s in
           let P : Turns → Type 0 = λ t. state_at (slice_set table (code path) s) t ≡ with_state (state_at table) path s t in subst P x (here ∙ sym there)
       | inr x ↦
           let apart : ¬ (code path ≡ code turns) = λ e. x.0 (codes_injective path turns e) in
-          ap found (get_other table (code path) (code turns) s apart) ∙ sym (x.1 (state_at table) s)
+          ap state_or_unknown (get_other table (code path) (code turns) s apart) ∙ sym (x.1 (state_at table) s)
     ]
 
 -- ---- a table seen item by item
@@ -89,13 +89,13 @@ pub map_replicate : {A B : Type 0} (f : A → B) (n : ℕ) (x : A) → map f (re
 map_replicate f zero x = refl
 map_replicate f (suc n) x = ap (λ zs. f x ∷ zs) (map_replicate f n x)
 
-pub map_found : {A : Type 0} (f : A → StateValue) (xs : List A) (k : ℕ) (x : A) → slice_get xs k ≡ Some x → found (slice_get (map f xs) k) ≡ f x
+pub map_found : {A : Type 0} (f : A → StateValue) (xs : List A) (k : ℕ) (x : A) → slice_get xs k ≡ Some x → state_or_unknown (slice_get (map f xs) k) ≡ f x
 map_found f [] zero x h = cc
 map_found f [] (suc k) x h = cc
 map_found f (y ∷ xs) zero x h = ap f (cc h)
 map_found f (y ∷ xs) (suc k) x h = map_found f xs k x h
 
-pub map_missing : {A : Type 0} (f : A → StateValue) (xs : List A) (k : ℕ) → slice_get xs k ≡ None → found (slice_get (map f xs) k) ≡ Unknown
+pub map_missing : {A : Type 0} (f : A → StateValue) (xs : List A) (k : ℕ) → slice_get xs k ≡ None → state_or_unknown (slice_get (map f xs) k) ≡ Unknown
 map_missing f [] zero h = refl
 map_missing f [] (suc k) h = refl
 map_missing f (y ∷ xs) zero h = cc
@@ -108,7 +108,7 @@ set_length [] (suc k) x = refl
 set_length (y ∷ xs) zero x = refl
 set_length (y ∷ xs) (suc k) x = ap suc (set_length xs k x)
 
-pub counts_set : (table : List StateValue) (k : ℕ) (s : StateValue) → k < length table → not_ended (slice_set table k s) + may_end (found (slice_get table k)) ≡ not_ended table + may_end s
+pub counts_set : (table : List StateValue) (k : ℕ) (s : StateValue) → k < length table → not_ended (slice_set table k s) + may_end (state_or_unknown (slice_get table k)) ≡ not_ended table + may_end s
 counts_set [] k s h = absurd (omega arith)
 counts_set (x ∷ table) zero s h = omega arith
 counts_set (x ∷ table) (suc k) s h = omega (arith, counts_set table k s (omega arith))
@@ -123,7 +123,7 @@ pub counts_within : (table : List StateValue) → not_ended table ≤ length tab
 counts_within [] = omega arith
 counts_within (s ∷ table) = omega (arith, may_end_once s, counts_within table)
 
-pub counts_no_more : (table : List StateValue) (k : ℕ) (s : StateValue) → k < length table → may_end (found (slice_get table k)) ≡ 1 → not_ended (slice_set table k s) ≤ not_ended table
+pub counts_no_more : (table : List StateValue) (k : ℕ) (s : StateValue) → k < length table → may_end (state_or_unknown (slice_get table k)) ≡ 1 → not_ended (slice_set table k s) ≤ not_ended table
 counts_no_more table k s h e = omega (arith, counts_set table k s h, e, may_end_once s)
 
 -- ---- places
@@ -140,7 +140,7 @@ first_shown share n items kept e none h =
     map_set state_value items 1 path_state.Offered ∙ ap (λ xs. slice_set xs 1 Offered) (ap (map state_value) e ∙ map_replicate state_value n path_state.Unknown) in
     λ i. record { share = share; states = λ turns. (ap (λ xs. state_at xs turns) seen ∙ first_table n h turns) i; least = None; kept = none i }
 
-pub first_room : (share n cap len : ℕ) (items : List PathState) → items ≡ replicate n path_state.Unknown → n ≡ 2 ^ (share + 1) → share ≤ 16 → cap ≡ n → len ≡ 0 → HasRoom share (map state_value (slice_set items 1 path_state.Offered)) (cap - len)
+pub first_room : (share n cap len : ℕ) (items : List PathState) → items ≡ replicate n path_state.Unknown → n ≡ 2 ^ (share + 1) → share ≤ 16 → cap ≡ n → len ≡ 0 → HasTableRoom share (map state_value (slice_set items 1 path_state.Offered)) (cap - len)
 first_room share n cap len items e g h f k =
     let states = map state_value (slice_set items 1 path_state.Offered) in
     let long : length states ≡ n = map_length state_value (slice_set items 1 path_state.Offered) ∙ (set_length items 1 path_state.Offered ∙ (ap length e ∙ length-replicate n path_state.Unknown)) in
@@ -153,27 +153,27 @@ put_shown share k items least kept table path s e at h =
     map_set state_value items k s ∙ ap (λ n. slice_set (map state_value items) n (state_value s)) at in
     subst P e (λ i. record { share = share; states = λ turns. (ap (λ xs. state_at xs turns) seen ∙ table_set (map state_value items) path (state_value s) h turns) i; least = least; kept = kept })
 
-pub put_room : (share k room : ℕ) (items : List PathState) (path : Turns) (s : PathState) → HasRoom share (map state_value items) room → k ≡ code path → code path < length (map state_value items) → may_end (state_at (map state_value items) path) ≡ 1 → HasRoom share (map state_value (slice_set items k s)) room
+pub put_room : (share k room : ℕ) (items : List PathState) (path : Turns) (s : PathState) → HasTableRoom share (map state_value items) room → k ≡ code path → code path < length (map state_value items) → may_end (state_at (map state_value items) path) ≡ 1 → HasTableRoom share (map state_value (slice_set items k s)) room
 put_room share k room items path s has at h once =
     let seen : map state_value (slice_set items k s) ≡ slice_set (map state_value items) (code path) (state_value s) =
     map_set state_value items k s ∙ ap (λ n. slice_set (map state_value items) n (state_value s)) at in
-    let P : List StateValue → Type 0 = λ xs. HasRoom share xs room in
+    let P : List StateValue → Type 0 = λ xs. HasTableRoom share xs room in
     subst P (sym seen) (record {
       small = has.small;
       places = set_length (map state_value items) (code path) (state_value s) ∙ has.places;
       records = omega (arith, counts_no_more (map state_value items) (code path) (state_value s) h once, has.records);
     })
 
-pub place_known : (share n room : ℕ) (states : List StateValue) (path : Turns) → HasRoom share states room → length path ≤ share → code path < length states
+pub place_known : (share n room : ℕ) (states : List StateValue) (path : Turns) → HasTableRoom share states room → length path ≤ share → code path < length states
 place_known share n room states path has h = omega (arith, code_below path share h, has.places)
 
-pub known_place : (states : List StateValue) (k : ℕ) → ¬ (found (slice_get states k) ≡ Unknown) → k < length states
+pub known_place : (states : List StateValue) (k : ℕ) → ¬ (state_or_unknown (slice_get states k) ≡ Unknown) → k < length states
 known_place [] zero h = absurd (h refl)
 known_place [] (suc k) h = absurd (h refl)
 known_place (s ∷ states) zero h = omega arith
 known_place (s ∷ states) (suc k) h = omega (arith, known_place states k h)
 
-pub counts_one : (states : List StateValue) (k : ℕ) → k < length states → may_end (found (slice_get states k)) ≤ not_ended states
+pub counts_one : (states : List StateValue) (k : ℕ) → k < length states → may_end (state_or_unknown (slice_get states k)) ≤ not_ended states
 counts_one [] k h = absurd (omega arith)
 counts_one (s ∷ states) zero h = omega arith
 counts_one (s ∷ states) (suc k) h = omega (arith, counts_one states k (omega arith))
@@ -186,12 +186,12 @@ keep_shown share k items least kept record' table path e at h =
     map_set state_value items k path_state.Ended ∙ ap (λ n. slice_set (map state_value items) n Ended) at in
     subst P e (λ i. record { share = share; states = λ turns. (ap (λ xs. state_at xs turns) seen ∙ table_set (map state_value items) path Ended h turns) i; least = least; kept = kept ++ record' ∷ [] })
 
-pub keep_room : (share k cap len more : ℕ) (items : List PathState) (path : Turns) → HasRoom share (map state_value items) (cap - len) → k ≡ code path → code path < length (map state_value items) → may_end (state_at (map state_value items) path) ≡ 1 → more ≡ len + 1 → HasRoom share (map state_value (slice_set items k path_state.Ended)) (cap - more)
+pub keep_room : (share k cap len more : ℕ) (items : List PathState) (path : Turns) → HasTableRoom share (map state_value items) (cap - len) → k ≡ code path → code path < length (map state_value items) → may_end (state_at (map state_value items) path) ≡ 1 → more ≡ len + 1 → HasTableRoom share (map state_value (slice_set items k path_state.Ended)) (cap - more)
 keep_room share k cap len more items path has at h once e =
     let states = map state_value items in
     let seen : map state_value (slice_set items k path_state.Ended) ≡ slice_set states (code path) Ended =
     map_set state_value items k path_state.Ended ∙ ap (λ n. slice_set states n Ended) at in
-    let P : List StateValue → Type 0 = λ xs. HasRoom share xs (cap - more) in
+    let P : List StateValue → Type 0 = λ xs. HasTableRoom share xs (cap - more) in
     subst P (sym seen) (record {
       small = has.small;
       places = set_length states (code path) Ended ∙ has.places;

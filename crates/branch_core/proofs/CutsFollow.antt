@@ -3,7 +3,7 @@ use Rattle.std.proofs.Common.{◌≡◌, ℕ, zero, suc, ◌+◌, ◌≤◌, tru
 use Rattle.me_terms.specs.Context.{Context}
 use Rattle.me_terms.specs.Outcome.{TreeOutcome}
 use Rattle.me_terms.specs.Outcome as outcome
-use Rattle.branch_core.specs.Paths.{Turns, IsLeftOf, ProperlyExtends}
+use Rattle.branch_core.specs.Paths.{Turns, IsLeftOf, ProperlyBegins}
 use Rattle.branch_core.specs.SearchTree.{SearchTree}
 use Rattle.branch_core.specs.Parts.{PartValue, RecordValue}
 use Rattle.branch_core.specs.Parts as part
@@ -282,7 +282,7 @@ module _ (search : SearchTree) (accounts : List Account) (whole : AreWhole searc
       cc (sym moved ∙ g.1)
 
   module _ (root : Account) (is_in : IsIn root accounts) (is_root : root.path ≡ []) (flat : List Piece) (fills : Fills accounts root.pieces flat) where
-    shorter : (n : ℕ) (longer path : Turns) → ProperlyExtends longer path → length longer ≤ n → length path + 1 ≤ n
+    shorter : (n : ℕ) (longer path : Turns) → ProperlyBegins path longer → length longer ≤ n → length path + 1 ≤ n
     shorter n longer path h short = omega (arith, ap length h.2, length-append path (h.0 ∷ h.1))
 
     at_root : (a : Account) → IsIn a accounts → a.path ≡ [] → Reached accounts flat a
@@ -392,7 +392,7 @@ follow n (NoMemory ∷ ps) g h = follow n ps g.1 (λ u key c. let x = h u key (i
     later (inr m) = m
 
 pub whole_cuts_follow : WholeCutsFollowSat
-whole_cuts_follow problem bounds positive records root filled whole is_in is_root h =
+whole_cuts_follow problem bounds records root filled whole is_in is_root h =
     let search = whole.0 in
     let accounts = whole.2.0 in
     let P : List RecordValue → Type 0 = λ rs. slice_get rs is_in.0 ≡ Some root in

@@ -71,7 +71,7 @@ module _ (search : SearchTree) (n : ℕ) (accounts : List Account) (whole : AreW
       record { gift = record_of n b.0; inner = x.0; is_in = (b.1.0, map_get (record_of n) accounts b.1.0 b.0 b.1.1); at = b.2; fills = x.1 })
 
 pub whole_fill : WholeRecordsFill
-whole_fill problem bounds positive records whole =
+whole_fill problem bounds records whole =
     let search = whole.0 in
     let accounts = whole.2.0 in
     let root = whole.2.1.root in

@@ -7,7 +7,7 @@ use Rattle.branch_core.specs.Filled.{IsNoGift, Filled, none_left, own, put}
 use Rattle.branch_core.specs.Parts.{PartValue, RecordValue}
 use Rattle.branch_core.specs.Parts as part
 use Rattle.branch_core.specs.PartViews.{part_value}
-use Rattle.branch_core.specs.Paths.{Turns, ProperlyExtends}
+use Rattle.branch_core.specs.Paths.{Turns, ProperlyBegins}
 use Rattle.branch_core.specs.Whole.{IsIn}
 use Rattle.branch_core.specs.declared.part.Part.{Part}
 use Rattle.branch_core.specs.declared.part.Part.TheVariants as variant
@@ -20,14 +20,14 @@ left_items : (items : List Part) (k : ℕ) (p : Part) → k < length items → p
 left_items items k p below is = ap (map part_value) (drop_more items k p below ∙ ap (λ (q : Part). q ∷ drop (k + 1) items) (sym is))
 
 -- a gift has a record, and extends the path that gave it
-pub gift_known : (records : List RecordValue) (whole : CanAssemble records) (r : RecordValue) (items : List Part) (k : ℕ) (p : Part) (gift turns : Turns) → IsIn r records → map part_value items ≡ r.parts → k < length items → p ≡ get_or items k p → p ≡ variant.Gift gift → turns ≡ gift → HasRecord records turns × ProperlyExtends turns r.path
+pub gift_known : (records : List RecordValue) (whole : CanAssemble records) (r : RecordValue) (items : List Part) (k : ℕ) (p : Part) (gift turns : Turns) → IsIn r records → map part_value items ≡ r.parts → k < length items → p ≡ get_or items k p → p ≡ variant.Gift gift → turns ≡ gift → HasRecord records turns × ProperlyBegins r.path turns
 gift_known records whole r items k p gift turns is_in parts below is is_gift same =
     let found : slice_get (map part_value items) k ≡ Some (part.Gift turns) =
     map_get part_value items k p (read items k p below is) ∙ ap (λ (q : PartValue). Some q) (ap part_value is_gift ∙ ap part.Gift (sym same)) in
     let here : IsIn (part.Gift turns) r.parts = subst (λ (ps : List PartValue). IsIn (part.Gift turns) ps) parts (k, found) in
     (whole.gifts r turns is_in here, whole.extends r turns is_in here)
 
-pub longer : (turns path : Turns) → ProperlyExtends turns path → length path + 1 ≤ length turns
+pub longer : (turns path : Turns) → ProperlyBegins path turns → length path + 1 ≤ length turns
 longer turns path e = omega (arith, ap length e.2, length-append path (e.0 ∷ e.1))
 
 -- ---- what is left, with the gifts filled in

@@ -1,7 +1,7 @@
 -- The records that a closed orderly run keeps are whole.
 use Rattle.std.proofs.Common.{◌≡◌, ℕ, zero, suc, Bool, true, false, ◌⊎◌, inl, inr, List, [], ◌∷◌, ◌++◌, map, length, Some, slice_get, refl, sym, subst, ap, ◌∙◌}
 use Rattle.me_terms.specs.TermEqualityLaws.{both_parts}
-use Rattle.branch_core.specs.Paths.{Turns, key, IsLeftOf, ProperlyExtends}
+use Rattle.branch_core.specs.Paths.{Turns, key, IsLeftOf, ProperlyBegins}
 use Rattle.branch_core.specs.SearchTree.{SearchTree, Leaf, subtree}
 use Rattle.me_terms.specs.Outcome as outcome
 use Rattle.branch_core.specs.Pieces.{Piece, Gift, Sat}
@@ -9,7 +9,7 @@ use Rattle.branch_core.specs.Replaced.{Replaced, own_leaf, own_node, given, cut,
 use Rattle.branch_core.specs.StandsFor.{Account, record_of, StandsFor}
 use Rattle.branch_core.specs.Whole.{IsIn, IsLicensed, AreWhole}
 use Rattle.branch_core.specs.Core.{StateValue, Unknown, Offered, Held, Ended, CoreValue, first_states, bool_eq, turns_eq, with_state}
-use Rattle.branch_core.specs.Runs.{Log, Offering, Posting, IsPosted, SparesFirst, IsOrderly, begins, offers, takes, posts, cuts, ends, IsClosed}
+use Rattle.branch_core.specs.Runs.{Log, Offering, Posting, IsPosted, SparesFirst, IsOrderly, begins, offers, takes, posts, cuts, ends, HasNoneLeft}
 use Rattle.branch_core.specs.RunLaws.{ClosedRunsKeepWhole, OrderlyRunsAreRight}
 
 -- ---- turns and states
@@ -19,14 +19,14 @@ bool_sound true false h = cc
 bool_sound false true h = cc
 bool_sound false false h = refl
 
-turns_sound : (s t : Turns) → turns_eq s t ≡ true → s ≡ t
+pub turns_sound : (s t : Turns) → turns_eq s t ≡ true → s ≡ t
 turns_sound [] [] h = refl
 turns_sound [] (b ∷ t) h = cc
 turns_sound (a ∷ s) [] h = cc
 turns_sound (a ∷ s) (b ∷ t) h =
     let parts = both_parts (bool_eq a b) (turns_eq s t) h in λ i. bool_sound a b parts.0 i ∷ turns_sound s t parts.1 i
 
-turns_same : (s : Turns) → turns_eq s s ≡ true
+pub turns_same : (s : Turns) → turns_eq s s ≡ true
 turns_same [] = refl
 turns_same (true ∷ s) = turns_same s
 turns_same (false ∷ s) = turns_same s
@@ -82,7 +82,7 @@ module _ (states : Turns → StateValue) (path : Turns) (s : StateValue) where
       ]
 
 -- ---- lists that grow at their end
-none_in : {A : Type 0} (x : A) (k : ℕ) → ¬ (slice_get [] k ≡ Some x)
+pub none_in : {A : Type 0} (x : A) (k : ℕ) → ¬ (slice_get [] k ≡ Some x)
 none_in x zero h = cc
 none_in x (suc k) h = cc
 
@@ -116,14 +116,14 @@ map_append f [] ys = refl
 map_append f (x ∷ xs) ys = λ i. f x ∷ map_append f xs ys i
 
 -- ---- more keys may cut
-replaced_more : {P Q : ℕ → Turns → Type 0} → ((k : ℕ) (t : Turns) → P k t → Q k t) → {turns : Turns} {search : SearchTree} {ps : List Piece} → Replaced P turns search ps → Replaced Q turns search ps
+pub replaced_more : {P Q : ℕ → Turns → Type 0} → ((k : ℕ) (t : Turns) → P k t → Q k t) → {turns : Turns} {search : SearchTree} {ps : List Piece} → Replaced P turns search ps → Replaced Q turns search ps
 replaced_more f own_leaf = own_leaf
 replaced_more f (own_node g h) = own_node (replaced_more f g) (replaced_more f h)
 replaced_more f given = given
 replaced_more f (cut {turns = turns} {key = key} m) = cut (f key turns m)
 replaced_more f no_memory = no_memory
 
-stands_more : {P Q : ℕ → Turns → Type 0} (search : SearchTree) (account : Account) → ((k : ℕ) (t : Turns) → P k t → Q k t) → StandsFor P search account → StandsFor Q search account
+pub stands_more : {P Q : ℕ → Turns → Type 0} (search : SearchTree) (account : Account) → ((k : ℕ) (t : Turns) → P k t → Q k t) → StandsFor P search account → StandsFor Q search account
 stands_more search account f h = record { own = h.own; leaves = h.leaves; at_path = h.at_path; replaced = replaced_more f h.replaced; joined = h.joined }
 
 -- ---- what every orderly run keeps
@@ -132,7 +132,7 @@ record Kept (n : ℕ) (search : SearchTree) (core : CoreValue) (log : Log) : Typ
   root : ¬ (core.states [] ≡ Unknown)
   offered : (o : Offering) → IsIn o log.offerings → ¬ (core.states o.path ≡ Unknown)
   busy : (o : Offering) → IsIn o log.offerings → IsTaken (core.states o.parent)
-  extends : (o : Offering) → IsIn o log.offerings → ProperlyExtends o.path o.parent
+  extends : (o : Offering) → IsIn o log.offerings → ProperlyBegins o.parent o.path
   ended : (path : Turns) → core.states path ≡ Ended → (a : Account) × IsIn a log.accounts × (a.path ≡ path)
   accounts_ended : (a : Account) → IsIn a log.accounts → core.states a.path ≡ Ended
   once : (a b : Account) (j k : ℕ) → slice_get log.accounts j ≡ Some a → slice_get log.accounts k ≡ Some b → a.path ≡ b.path → j ≡ k
@@ -204,9 +204,9 @@ kept (offers {core = core} {log = log} by parent path run legal right) =
         | inl a ↦ taken o.parent (x.busy o a)
         | inr e ↦ let P : Offering → Type 0 = λ z. IsTaken (with_state states path Offered z.parent) in subst P (sym e) (taken parent parent_taken)
       ];
-      extends = λ o h. elim (in_cases offerings new o h) as (λ _. ProperlyExtends o.path o.parent) [
+      extends = λ o h. elim (in_cases offerings new o h) as (λ _. ProperlyBegins o.parent o.path) [
         | inl a ↦ x.extends o a
-        | inr e ↦ let P : Offering → Type 0 = λ z. ProperlyExtends z.path z.parent in subst P (sym e) legal.extends
+        | inr e ↦ let P : Offering → Type 0 = λ z. ProperlyBegins z.parent z.path in subst P (sym e) legal.extends
       ];
       ended = λ p h. elim (state_cases states path Offered p) as (λ _. (a : Account) × IsIn a accounts × (a.path ≡ p)) [
         | inl e ↦ cc (sym e.1 ∙ h)
@@ -400,7 +400,7 @@ kept {n = n} {search = search} (ends {core = core} {log = log} by account run le
     }
 
 -- ---- closed
-closed_ended : (core : CoreValue) → IsClosed core → (path : Turns) → ¬ (core.states path ≡ Unknown) → core.states path ≡ Ended
+closed_ended : (core : CoreValue) → HasNoneLeft core → (path : Turns) → ¬ (core.states path ≡ Unknown) → core.states path ≡ Ended
 closed_ended core closed path h = by (core.states path) refl
   where
     by : (s : StateValue) → core.states path ≡ s → core.states path ≡ Ended

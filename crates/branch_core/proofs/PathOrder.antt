@@ -59,7 +59,7 @@ codes_injective s t e =
     ]
 
 -- ---- keys
-key_below : (n : ℕ) (turns : Turns) → key_bits n turns < 2 ^ n
+pub key_below : (n : ℕ) (turns : Turns) → key_bits n turns < 2 ^ n
 key_below zero turns = omega arith
 key_below (suc n) [] = omega (arith, key_below n [], double n)
 key_below (suc n) (false ∷ turns) = omega (arith, key_below n turns, double n)

@@ -3,7 +3,7 @@ use Rattle.std.proofs.Common.{◌≡◌, ℕ, zero, suc, true, false, ◌⊎◌,
 use Rattle.me_terms.specs.Context.{Context}
 use Rattle.me_terms.specs.Outcome.{TreeOutcome}
 use Rattle.me_terms.specs.Outcome as outcome
-use Rattle.branch_core.specs.Paths.{Turns, ProperlyExtends}
+use Rattle.branch_core.specs.Paths.{Turns, ProperlyBegins}
 use Rattle.branch_core.specs.SearchTree.{Leaf, Node}
 use Rattle.branch_core.specs.Pieces.{Sat, Gift, NoMemory}
 use Rattle.branch_core.specs.Replaced.{own_leaf, own_node, given, no_memory}
@@ -65,7 +65,7 @@ module _ (context : Context) (other : TreeOutcome) where
     ];
     extends = λ a gift h g.
         let x = only_gift a gift h g in
-        let P : Turns × Turns → Type 0 = λ p. ProperlyExtends p.0 p.1 in subst P (λ i. (sym x.1 i, sym x.0 i)) (true, [], refl);
+        let P : Turns × Turns → Type 0 = λ p. ProperlyBegins p.1 p.0 in subst P (λ i. (sym x.1 i, sym x.0 i)) (true, [], refl);
     stands = λ a h. elim (two_at first second a h.0 h.1) as (λ _. StandsFor (IsLicensed (left_and_gift context)) (Node (Leaf (outcome.Sat context)) (Leaf other)) a) [
       | inl x ↦ subst (StandsFor (IsLicensed (left_and_gift context)) (Node (Leaf (outcome.Sat context)) (Leaf other))) (sym x.1) (record { own = Node (Leaf (outcome.Sat context)) (Leaf other); leaves = first.pieces; at_path = refl; replaced = own_node own_leaf given; joined = as_they_are })
       | inr x ↦ subst (StandsFor (IsLicensed (left_and_gift context)) (Node (Leaf (outcome.Sat context)) (Leaf other))) (sym x.1) (record { own = Leaf other; leaves = second.pieces; at_path = refl; replaced = no_memory; joined = as_they_are })

@@ -1,9 +1,9 @@
 -- What putting records together needs, and what it gives.
-use Rattle.std.specs.Prelude.{◌≡◌, ℕ, Bool, List, [], slice_get, Some}
+use Rattle.std.specs.Prelude.{◌≡◌, ℕ, List, [], slice_get, Some}
 use Rattle.me_terms.specs.Values.{ProblemValue}
 use Rattle.me_terms.specs.Answer.{AnswerValue, HasAnswer}
 use Rattle.me_terms.specs.declared.bounds.Bounds.{Bounds}
-use Rattle.branch_core.specs.Paths.{Turns, ProperlyExtends}
+use Rattle.branch_core.specs.Paths.{Turns, ProperlyBegins}
 use Rattle.branch_core.specs.Parts.{PartValue, Gift, RecordValue}
 use Rattle.branch_core.specs.Whole.{IsIn, AreWholeRecords}
 use Rattle.branch_core.specs.Filled.{Filled, LacksMemory, CutsFollowSat}
@@ -13,13 +13,13 @@ pub record CanAssemble (records : List RecordValue) : Type 0 where
   pub root : (record' : RecordValue) × IsIn record' records × (record'.path ≡ [])
   pub gifts : (record' : RecordValue) (gift : Turns) → IsIn record' records → IsIn (Gift gift) record'.parts → (other : RecordValue) × IsIn other records × (other.path ≡ gift)
   pub once : (record' other : RecordValue) (j k : ℕ) → slice_get records j ≡ Some record' → slice_get records k ≡ Some other → record'.path ≡ other.path → j ≡ k
-  pub extends : (record' : RecordValue) (gift : Turns) → IsIn record' records → IsIn (Gift gift) record'.parts → ProperlyExtends gift record'.path
+  pub extends : (record' : RecordValue) (gift : Turns) → IsIn record' records → IsIn (Gift gift) record'.parts → ProperlyBegins record'.path gift
   pub cuts : (record' : RecordValue) (filled : List PartValue) → IsIn record' records → record'.path ≡ [] → Filled records record'.parts filled → CutsFollowSat filled
 
--- For every problem and bounds for which the records are whole it is the answer, whatever the sign of the start.
+-- For every problem and bounds for which the records are whole it is the answer, whatever the start.
 abbrev pub AnswersWhole : List RecordValue → ℕ → AnswerValue → Type 0
 AnswersWhole records list_bound reply =
-    (problem : ProblemValue) (bounds : Bounds) (positive : Bool) → bounds.list ≡ list_bound → AreWholeRecords problem bounds positive records → HasAnswer problem bounds positive reply
+    (problem : ProblemValue) (bounds : Bounds) → bounds.list ≡ list_bound → AreWholeRecords problem bounds records → HasAnswer problem bounds reply
 
 -- Once the gifts are filled in, a part NoMemory stands left of the first Sat, or anywhere where there is no Sat.
 abbrev pub RecordsLackMemory : List RecordValue → Type 0

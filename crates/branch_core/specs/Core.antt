@@ -1,6 +1,6 @@
 -- The core: the states of the paths, the least key, and the records that are kept; and its events.
 use Rattle.std.specs.Prelude.{◌≡◌, ℕ, ◌<◌, ◌≤◌, Bool, true, false, ◌&&◌, List, [], ◌∷◌, ◌++◌, length, Option, Some, None, if◌then◌else◌, min, ◌⊎◌}
-use Rattle.branch_core.specs.Paths.{Turns, key, ProperlyExtends}
+use Rattle.branch_core.specs.Paths.{Turns, key, ProperlyBegins}
 use Rattle.branch_core.specs.Parts.{PartValue, RecordValue}
 
 -- An actor's name.
@@ -64,7 +64,7 @@ EndsRight path = (before : Turns) × (path ≡ before ++ true ∷ [])
 -- What an Offer needs: the parent is held by the actor; the path extends it, ends with a right turn, has few turns, and is Unknown.
 pub record MayOffer (core : CoreValue) (by : Actor) (parent path : Turns) : Type 0 where
   pub held : core.states parent ≡ Held by
-  pub extends : ProperlyExtends path parent
+  pub extends : ProperlyBegins parent path
   pub to_right : EndsRight path
   pub short : length path ≤ core.share
   pub unknown : core.states path ≡ Unknown

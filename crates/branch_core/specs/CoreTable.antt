@@ -12,13 +12,13 @@ pub record CoreTable : Type 0 where
   pub kept : List RecordValue
 
 -- The state that was found, or Unknown past the end of the table.
-abbrev pub found : Option StateValue → StateValue
-found (Some state) = state
-found None = Unknown
+abbrev pub state_or_unknown : Option StateValue → StateValue
+state_or_unknown (Some state) = state
+state_or_unknown None = Unknown
 
 -- The state at the place of the path's code.
 abbrev pub state_at : List StateValue → Turns → StateValue
-state_at states turns = found (slice_get states (code turns))
+state_at states turns = state_or_unknown (slice_get states (code turns))
 
 -- The core that the table stands for.
 abbrev pub core_value : CoreTable → CoreValue
@@ -37,7 +37,7 @@ not_ended [] = 0
 not_ended (state ∷ states) = may_end state + not_ended states
 
 -- The table has a place for each path of at most `share` turns, and there is room for a record of each that has not ended.
-pub record HasRoom (share : ℕ) (states : List StateValue) (room : ℕ) : Type 0 where
+pub record HasTableRoom (share : ℕ) (states : List StateValue) (room : ℕ) : Type 0 where
   pub small : share ≤ 16
   pub places : length states ≡ 2 ^ (share + 1)
   pub records : not_ended states ≤ room

@@ -12,6 +12,7 @@ pub mod PathLaws
 pub mod PathOrder
 pub mod Paths
 pub mod Pieces
+pub mod Portions
 pub mod RecordIndex
 pub mod RecordLaws
 pub mod Replaced

@@ -73,14 +73,14 @@ pub data IsOrderly (list_bound share : ℕ) (search : SearchTree) : CoreValue �
   ends : {core : CoreValue} {log : Log} (by : Actor) (account : Account) → IsOrderly list_bound share search core log → IsLegal core (End by account.path (map (part_of list_bound) account.pieces)) → EndsOrderly search log.offerings log.postings account → IsOrderly list_bound share search (after core (End by account.path (map (part_of list_bound) account.pieces))) (record log { accounts = log.accounts ++ account ∷ [] })
 
 -- No path is Offered or Held.
-pub record IsClosed (core : CoreValue) : Type 0 where
+pub record HasNoneLeft (core : CoreValue) : Type 0 where
   pub none_offered : (path : Turns) → ¬ (core.states path ≡ Offered)
   pub none_held : (path : Turns) (by : Actor) → ¬ (core.states path ≡ Held by)
 
 -- A closed orderly run that keeps these records.
 abbrev pub KeepsClosed : ℕ → SearchTree → List RecordValue → Type 0
 KeepsClosed list_bound search records =
-    (share : ℕ) × (core : CoreValue) × (log : Log) × IsOrderly list_bound share search core log × IsClosed core × (records ≡ core.kept)
+    (share : ℕ) × (core : CoreValue) × (log : Log) × IsOrderly list_bound share search core log × HasNoneLeft core × (records ≡ core.kept)
 
 -- The leaf is exhausted, and no exhausted leaf stands left of it.
 pub record IsFirstSat (search : SearchTree) (leaf : Turns) : Type 0 where

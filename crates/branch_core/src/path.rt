@@ -4,7 +4,7 @@
 //! and keys order leaves from left to right.
 ghost use Rattle.std.specs.Prelude.{◌≡◌, ◌<◌, ◌≤◌, ◌^◌, ◌+◌, ◌*◌, [], ◌∷◌, ◌++◌, true, false, length, MatchOption, IsTrue, ◌↔◌, ◌⊎◌};
 ghost use Rattle.branch_core.specs.Core.{EndsRight};
-ghost use Rattle.branch_core.specs.Paths.{Turns, turns_of, code, key, IsLeftOf, ProperlyExtends};
+ghost use Rattle.branch_core.specs.Paths.{Turns, turns_of, code, key, IsLeftOf, ProperlyBegins};
 
 use std::marker::Model;
 
@@ -135,8 +135,8 @@ pub(crate) fn turn_count(p: Path) -> u8
 }
 
 /// Whether `longer` begins with the turns of `shorter` and has more.
-pub(crate) fn properly_extends(longer: Path, shorter: Path) -> bool
-    ensures { IsTrue result ↔ ProperlyExtends longer shorter }
+pub(crate) fn properly_begins(shorter: Path, longer: Path) -> bool
+    ensures { IsTrue result ↔ ProperlyBegins shorter longer }
 {
     let turns = turn_count(shorter);
     turns < turn_count(longer) && first_turns(longer, turns).bits == shorter.bits

@@ -3,7 +3,7 @@
 //!
 //! An event is a step of the core where it is legal, and changes nothing elsewhere. No step takes memory.
 ghost use Rattle.std.specs.Prelude.{◌≡◌, ◌<◌, ◌≤◌, ◌↔◌, ◌⊎◌, [], ◌∷◌, ◌++◌, length, map, IfOk, IfErr, IsOk, OnOk, OnErr, IsTrue, MatchOption, Some};
-ghost use Rattle.branch_core.specs.Paths.{code, key, ProperlyExtends};
+ghost use Rattle.branch_core.specs.Paths.{code, key, ProperlyBegins};
 ghost use Rattle.branch_core.specs.PartViews.{part_value};
 ghost use Rattle.branch_core.specs.Core.{IsLegal, MayOffer, Shows, EndsRight, after, first_core, with_state, least_with};
 ghost use Rattle.branch_core.specs.Core as pure;
@@ -12,7 +12,7 @@ ghost use Rattle.branch_core.specs.EventViews.{event_value, state_value};
 
 use crate::event::{Event, Illegal, PathState};
 use crate::part::{Parts, Record};
-use crate::path::{Path, code_of, ends_right, key_of, properly_extends, turn_count};
+use crate::path::{Path, code_of, ends_right, key_of, properly_begins, turn_count};
 use std::alloc::{AllocError, Global};
 use std::marker::Model;
 
@@ -35,12 +35,12 @@ impl Model for Core {
     ghost coded = { Prim.hlevel (codes, arguments_code) };
 
     ghost use Rattle.std.specs.Prelude.{◌-◌, map, vec_len, vec_capacity};
-    ghost use Rattle.branch_core.specs.CoreTable.{HasRoom};
+    ghost use Rattle.branch_core.specs.CoreTable.{HasTableRoom};
     ghost use Rattle.branch_core.specs.EventViews.{state_value};
 
     ghost view = { λ c. record { share = c.share; states = map state_value c.states.items; least = c.least; kept = c.kept.items } };
 
-    ghost invariant = { λ c. HasRoom c.share (map state_value c.states.items) (vec_capacity c.kept - vec_len c.kept) };
+    ghost invariant = { λ c. HasTableRoom c.share (map state_value c.states.items) (vec_capacity c.kept - vec_len c.kept) };
 }
 
 impl Core {
@@ -114,9 +114,9 @@ impl Core {
 
     /// Whether the path is a right child below the parent, of few turns.
     fn may_give(&self, parent: Path, path: Path) -> bool
-        ensures { IsTrue result ↔ ((ProperlyExtends path parent) × (EndsRight path) × (length path ≤ self.now.share)) }
+        ensures { IsTrue result ↔ ((ProperlyBegins parent path) × (EndsRight path) × (length path ≤ self.now.share)) }
     {
-        properly_extends(path, parent)
+        properly_begins(parent, path)
             && ends_right(path)
             && u32::from(turn_count(path)) <= self.share
     }

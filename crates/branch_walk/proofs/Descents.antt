@@ -1,14 +1,15 @@
 -- The walk from a context down to a Split, by Asserts.
-use Rattle.std.proofs.Common.{◌≡◌, ℕ, Bool, List, [], ◌∷◌, ◌++◌, append-nil, append_assoc, refl, sym, subst, ap, ◌∙◌}
+use Rattle.std.proofs.Common.{◌≡◌, ℕ, List, [], ◌∷◌, ◌++◌, append-nil, append_assoc, refl, sym, subst, ap, ◌∙◌}
 use Rattle.me_terms.specs.Values.{ProblemValue}
 use Rattle.me_terms.specs.Context.{Context, add}
 use Rattle.me_terms.specs.Grown.{IsGrown, asserted}
 use Rattle.me_terms.specs.declared.bounds.Bounds.{Bounds}
+use Rattle.branch_core.proofs.Orderly.{replaced_more}
 use Rattle.branch_core.specs.Paths.{Turns}
 use Rattle.branch_core.specs.Replaced.{Replaced}
 use Rattle.branch_core.specs.SearchTree.{IsSearchTree, asserts}
-use Rattle.branch_walk.specs.Jobs.{turns_taken, MayBeGiven}
-use Rattle.branch_walk.specs.Portions.{sat_keys, MayCut}
+use Rattle.branch_walk.specs.Jobs.{turns_taken}
+use Rattle.branch_core.specs.Portions.{MayBeGiven, sat_keys, MayCut}
 use Rattle.branch_walk.specs.Tallies.{IsTally}
 use Rattle.branch_walk.specs.Walks.{Heard, Hears, IsVisited, IsWalked, LeadsTo, GoesOn}
 use Rattle.branch_walk.specs.declared.state.State.{State}
@@ -18,7 +19,7 @@ use Rattle.branch_walk.specs.declared.tally.Tally.{Tally}
 use Rattle.std.specs.List.{All}
 use Rattle.branch_walk.proofs.TurnsTaken.{turns_assert}
 use Rattle.branch_core.specs.Pieces.{Piece}
-use Rattle.branch_walk.proofs.Places.{in_right, may_more, replaced_more}
+use Rattle.branch_walk.proofs.Places.{in_right, may_more}
 use Rattle.branch_walk.proofs.Subtrees.{hears_none, hears_more, hears_sent}
 
 -- the node is reached from the context by Asserts, and nothing came to the tally
@@ -30,10 +31,10 @@ pub record IsDescending (problem : ProblemValue) (bounds : Bounds) (context node
   pub below : (later : Context) × (node ≡ context ++ later)
 
 module _ (problem : ProblemValue) (bounds : Bounds) (context : Context) (heard : Heard) (old : Tally) where
-  pub descent_begins : (positive : Bool) → IsGrown problem bounds positive context → IsDescending problem bounds context context heard heard old old
-  descent_begins positive grown = record {
+  pub descent_begins : IsGrown problem bounds context → IsDescending problem bounds context context heard heard old old
+  descent_begins grown = record {
     told = [];
-    leads = record { grown = (positive, grown); turns = refl; tree = λ own h. h };
+    leads = record { grown = grown; turns = refl; tree = λ own h. h };
     hears = hears_none heard;
     same = refl;
     below = ([], sym (append-nil context));
@@ -44,12 +45,11 @@ module _ (problem : ProblemValue) (bounds : Bounds) (context : Context) (heard :
       let e = v.0 in
       let next = v.1 in
       let is = v.2 in
-      let positive = d.leads.grown.0 in
-      let G : Context → Type 0 = λ c. IsGrown problem bounds positive c in
+      let G : Context → Type 0 = λ c. IsGrown problem bounds c in
       record {
         told = d.told ++ told;
         leads = record {
-          grown = (positive, subst G (sym is) (asserted d.leads.grown.1 next));
+          grown = subst G (sym is) (asserted d.leads.grown next);
           turns = ap turns_taken is ∙ (turns_assert problem bounds from e next ∙ d.leads.turns);
           tree = λ own tree. let S : Context → Type 0 = λ c. IsSearchTree problem bounds c own in d.leads.tree own (asserts next (subst S is tree));
         };

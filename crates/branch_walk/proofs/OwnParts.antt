@@ -5,6 +5,7 @@ use Rattle.std.proofs.lemmas.List.Elements.{All-cons, All-nil}
 use Rattle.me_terms.specs.Context.{Context}
 use Rattle.me_terms.specs.Outcome as outcome
 use Rattle.me_terms.specs.Outcome.{TreeOutcome}
+use Rattle.branch_core.proofs.Orderly.{none_in}
 use Rattle.branch_core.specs.Paths.{Turns}
 use Rattle.branch_core.specs.Parts.{PartValue, RecordValue}
 use Rattle.branch_core.specs.Pieces.{Piece, Closed, Bounded, Sat, Gift, Cut, NoMemory, leaf_piece}
@@ -13,8 +14,9 @@ use Rattle.branch_core.specs.Replaced.{Replaced, own_leaf, own_node, given, cut,
 use Rattle.branch_core.specs.SearchTree.{SearchTree}
 use Rattle.branch_core.specs.StandsFor.{part_of}
 use Rattle.branch_core.specs.Whole.{IsIn}
-use Rattle.branch_walk.specs.Portions.{gifts, MayCut, IsOwnPart, IsPortion}
-use Rattle.branch_walk.proofs.PortionEnds.{none_at, one_at}
+use Rattle.branch_core.specs.Portions.{gifts, MayCut, IsPortion}
+use Rattle.branch_walk.specs.OwnParts.{IsOwnPart}
+use Rattle.branch_walk.proofs.PortionEnds.{one_at}
 use Rattle.branch_walk.proofs.Spines.{no_reverse}
 
 abbrev pub IsNoCut : Piece → Type 0
@@ -87,7 +89,7 @@ no_cut_alone (Cut turns k) told path own leaves none r j =
     let never : (key : ℕ) (t : Turns) → MayCut told (Cut turns k ∷ []) key t → ⊥ =
     λ key t may.
     elim may as (λ _. ⊥) [
-      | inl a ↦ let P : List ℕ → Type 0 = λ ks. IsIn key ks in let there = subst P none a.0 in none_at key there.0 there.1
+      | inl a ↦ let P : List ℕ → Type 0 = λ ks. IsIn key ks in let there = subst P none a.0 in none_in key there.0 there.1
       | inr b ↦ sat_no_cut b.0 turns b.1 k b.2
     ] in
     (joined_no_cut j (replaced_no_cut never r)).0
@@ -108,7 +110,7 @@ own_alone {n} {search} {record'} told gave sent untold ungiven few p =
 
 -- what was told makes the list of what was told longer
 pub told_longer : (k : ℕ) (old mid new a b : List ℕ) → mid ≡ old ++ a → new ≡ mid ++ b → IsIn k b → new ≡ old → ⊥
-told_longer k old mid new a [] f g h same = none_at k h.0 h.1
+told_longer k old mid new a [] f g h same = none_in k h.0 h.1
 told_longer k old mid new a (x ∷ b) f g h same =
     let one = ap (λ (ks : List ℕ). length ks) f in
     let two = ap (λ (ks : List ℕ). length ks) g in

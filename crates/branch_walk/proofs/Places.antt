@@ -1,18 +1,15 @@
 -- A walk's place in the tree of its root: what the pieces of the tree there, and of the right branches that wait, make of those passed.
 use Rattle.std.proofs.Common.{◌≡◌, ℕ, zero, suc, true, false, List, [], ◌∷◌, ◌++◌, slice_get, Some, inl, inr, append-nil, append_assoc, refl, sym, subst, ap, ◌∙◌}
 use Rattle.me_terms.specs.Outcome.{TreeOutcome}
+use Rattle.branch_core.proofs.Orderly.{none_in}
 use Rattle.branch_core.specs.Paths.{Turns}
 use Rattle.branch_core.specs.Pieces.{Piece, Sat, leaf_piece}
-use Rattle.branch_core.specs.Replaced.{Replaced, own_leaf, own_node, given, cut, no_memory}
+use Rattle.branch_core.specs.Replaced.{Replaced, own_leaf, own_node}
 use Rattle.branch_core.specs.SearchTree.{SearchTree, Leaf, Node}
 use Rattle.branch_core.specs.Whole.{IsIn}
-use Rattle.branch_walk.specs.Portions.{MayCut}
+use Rattle.branch_core.specs.Portions.{MayCut}
 
 -- ---- items of lists
-none_in : {A : Type 0} (x : A) (k : ℕ) → slice_get [] k ≡ Some x → ⊥
-none_in x zero h = cc h
-none_in x (suc k) h = cc h
-
 pub in_there : {A : Type 0} (y x : A) (xs : List A) → IsIn x xs → IsIn x (y ∷ xs)
 in_there y x xs h = (suc h.0, h.1)
 
@@ -29,13 +26,6 @@ in_right x [] ys h = h
 in_right x (y ∷ xs) ys h = in_there y x (xs ++ ys) (in_right x xs ys h)
 
 -- ---- more keys may cut
-pub replaced_more : {P Q : ℕ → Turns → Type 0} → ((k : ℕ) (t : Turns) → P k t → Q k t) → {turns : Turns} {search : SearchTree} {ps : List Piece} → Replaced P turns search ps → Replaced Q turns search ps
-replaced_more f own_leaf = own_leaf
-replaced_more f (own_node g h) = own_node (replaced_more f g) (replaced_more f h)
-replaced_more f given = given
-replaced_more f (cut {turns = turns} {key = key} m) = cut (f key turns m)
-replaced_more f no_memory = no_memory
-
 pub may_more : (told more_told : List ℕ) (ps qs : List Piece) → ((x : ℕ) → IsIn x told → IsIn x more_told) → ((p : Piece) → IsIn p ps → IsIn p qs) → (k : ℕ) (t : Turns) → MayCut told ps k t → MayCut more_told qs k t
 may_more told more_told ps qs f g k t may =
     elim may as (λ _. MayCut more_told qs k t) [

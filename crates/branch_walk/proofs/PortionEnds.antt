@@ -1,10 +1,11 @@
 -- What the walk of a job's tree hands back is a portion, and that of the whole tree without gifts is whole.
-use Rattle.std.proofs.Common.{◌≡◌, ℕ, zero, suc, ◌≤◌, Bool, false, List, [], ◌∷◌, ◌++◌, length, reverse, slice_get, Some, inl, inr, refl, sym, subst, ap, ◌∙◌}
+use Rattle.std.proofs.Common.{◌≡◌, ℕ, zero, suc, ◌≤◌, List, [], ◌∷◌, ◌++◌, length, reverse, slice_get, Some, inl, inr, refl, sym, subst, ap, ◌∙◌}
 use Rattle.std.proofs.lemmas.Option.{same_Some}
 use Rattle.me_terms.specs.Values.{ProblemValue}
 use Rattle.me_terms.specs.Context.{Context}
 use Rattle.me_terms.specs.Grown.{IsGrown, start}
 use Rattle.me_terms.specs.declared.bounds.Bounds.{Bounds}
+use Rattle.branch_core.proofs.Orderly.{none_in, replaced_more, stands_more}
 use Rattle.branch_core.specs.Paths.{Turns}
 use Rattle.branch_core.specs.Parts.{RecordValue}
 use Rattle.branch_core.specs.Pieces.{Piece, Gift}
@@ -14,20 +15,19 @@ use Rattle.branch_core.specs.SearchTree.{SearchTree, IsSearchTree, subtree}
 use Rattle.branch_core.specs.StandsFor.{Account, record_of, StandsFor}
 use Rattle.branch_core.specs.Whole.{IsIn, IsLicensed, AreWhole, AreWholeRecords}
 use Rattle.std.specs.List.{All}
-use Rattle.branch_walk.specs.Jobs.{turns_taken, MayBeGiven}
-use Rattle.branch_walk.specs.Portions.{gift_of, gifts, MayCut, IsJoinedThrough, IsPortion}
+use Rattle.branch_walk.specs.Jobs.{turns_taken}
+use Rattle.branch_core.specs.Portions.{MayBeGiven, gift_of, gifts, MayCut, IsJoinedThrough, IsPortion}
 use Rattle.branch_walk.specs.Walks.{Heard, IsWalked}
 use Rattle.branch_walk.specs.declared.state.State.{State}
 use Rattle.branch_walk.specs.declared.tally.Tally.{Tally}
-use Rattle.branch_walk.proofs.Places.{replaced_more}
 use Rattle.branch_walk.proofs.Spines.{no_reverse}
 use Rattle.branch_walk.proofs.Survivors.{gifts_joined, sats_joined, may_cut_joined}
 use Rattle.branch_walk.proofs.TreesAt.{tree_at}
 use Rattle.branch_walk.proofs.TreesBelow.{same_tree}
 
 module _ (problem : ProblemValue) (bounds : Bounds) (share : ℕ) (path : Turns) (context : Context) where
-  pub portion : (positive : Bool) → IsGrown problem bounds positive context → turns_taken context ≡ path → (state : State) (heard now : Heard) (old new : Tally) → (w : IsWalked problem bounds share context state heard now old new) → (pieces : List Piece) → Joined w.more pieces → IsJoinedThrough pieces → (record' : RecordValue) → record' ≡ record_of bounds.list (record { path = path; pieces = pieces }) → (search : SearchTree) → IsSearchTree problem bounds (start positive) search → IsPortion bounds.list share search path w.told w.gave w.sent record'
-  portion positive grown turns state heard now old new w pieces joined through record' is search tree =
+  pub portion : IsGrown problem bounds context → turns_taken context ≡ path → (state : State) (heard now : Heard) (old new : Tally) → (w : IsWalked problem bounds share context state heard now old new) → (pieces : List Piece) → Joined w.more pieces → IsJoinedThrough pieces → (record' : RecordValue) → record' ≡ record_of bounds.list (record { path = path; pieces = pieces }) → (search : SearchTree) → IsSearchTree problem bounds (start bounds.start) search → IsPortion bounds.list share search path w.told w.gave w.sent record'
+  portion grown turns state heard now old new w pieces joined through record' is search tree =
       let here = tree_at grown search tree in
       let own = same_tree problem bounds context here.own w.own here.tree w.tree in
       let L : List ℕ → Type 0 = λ s. length s ≤ 1 in
@@ -53,20 +53,16 @@ module _ (problem : ProblemValue) (bounds : Bounds) (share : ℕ) (path : Turns)
       }
 
 -- ---- one record
-pub none_at : {A : Type 0} (x : A) (k : ℕ) → slice_get [] k ≡ Some x → ⊥
-none_at x zero h = cc h
-none_at x (suc k) h = cc h
-
 pub one_at : {A : Type 0} (x a : A) (k : ℕ) → slice_get (a ∷ []) k ≡ Some x → (k ≡ 0) × (x ≡ a)
 one_at x a zero h = (refl, sym (same_Some a x h))
-one_at x a (suc k) h = absurd (none_at x k h)
+one_at x a (suc k) h = absurd (none_in x k h)
 
 both_none : {A : Type 0} (xs ys : List A) → xs ++ ys ≡ [] → ys ≡ []
 both_none [] ys h = h
 both_none (x ∷ xs) ys h = cc h
 
 gift_at : (g : Turns) (ps : List Piece) (k : ℕ) → slice_get ps k ≡ Some (Gift g) → gifts ps ≡ [] → ⊥
-gift_at g [] k h none = none_at (Gift g) k h
+gift_at g [] k h none = none_in (Gift g) k h
 gift_at g (p ∷ ps) zero h none =
     let is : p ≡ Gift g = same_Some p (Gift g) h in
     let P : Piece → Type 0 = λ z. gift_of z ++ gifts ps ≡ [] in
@@ -75,7 +71,7 @@ gift_at g (p ∷ ps) zero h none =
 gift_at g (p ∷ ps) (suc k) h none = gift_at g ps k h (both_none (gift_of p) (gifts ps) none)
 
 -- nothing was told and nothing given
-pub whole_alone : (problem : ProblemValue) (bounds : Bounds) (record' : RecordValue) (told : List ℕ) (gave : List Turns) (sent : List ℕ) → told ≡ [] → gave ≡ [] → (search : SearchTree) → IsSearchTree problem bounds (start false) search → IsPortion bounds.list 0 search [] told gave sent record' → AreWholeRecords problem bounds false (record' ∷ [])
+pub whole_alone : (problem : ProblemValue) (bounds : Bounds) (record' : RecordValue) (told : List ℕ) (gave : List Turns) (sent : List ℕ) → told ≡ [] → gave ≡ [] → (search : SearchTree) → IsSearchTree problem bounds (start bounds.start) search → IsPortion bounds.list 0 search [] told gave sent record' → AreWholeRecords problem bounds (record' ∷ [])
 whole_alone problem bounds record' told gave sent untold ungiven search tree p =
     let account : Account = record { path = []; pieces = p.pieces } in
     let accounts : List Account = account ∷ [] in
@@ -89,16 +85,10 @@ whole_alone problem bounds record' told gave sent untold ungiven search tree p =
     let licensed : (k : ℕ) (t : Turns) → MayCut told p.pieces k t → IsLicensed accounts k t =
     λ k t may.
     elim may as (λ _. IsLicensed accounts k t) [
-      | inl a ↦ let P : List ℕ → Type 0 = λ ks. IsIn k ks in let there = subst P untold a.0 in absurd (none_at k there.0 there.1)
+      | inl a ↦ let P : List ℕ → Type 0 = λ ks. IsIn k ks in let there = subst P untold a.0 in absurd (none_in k there.0 there.1)
       | inr b ↦ (account, b.0, b.1, (0, refl), b.2, b.3, b.4)
     ] in
-    let stands : StandsFor (IsLicensed accounts) search account = record {
-      own = p.stands.own;
-      leaves = p.stands.leaves;
-      at_path = p.stands.at_path;
-      replaced = replaced_more licensed p.stands.replaced;
-      joined = p.stands.joined;
-    } in
+    let stands = stands_more search account licensed p.stands in
     let whole : AreWhole search accounts = record {
       root = (account, (0, refl), refl);
       gifts = λ other g h i. absurd (no_gift other g h i);

@@ -8,14 +8,15 @@ use Rattle.me_terms.specs.Values.{ProblemValue, SplitLeft}
 use Rattle.me_terms.specs.Context.{Context, add}
 use Rattle.me_terms.specs.Grown.{IsGrown, split_entry, right_of, went_left, went_right}
 use Rattle.me_terms.specs.declared.bounds.Bounds.{Bounds}
+use Rattle.branch_core.proofs.Orderly.{replaced_more}
 use Rattle.branch_core.specs.Paths.{Turns, IsLeftOf}
 use Rattle.branch_core.specs.Hooks.{SameGifts}
 use Rattle.branch_core.specs.Pieces.{Piece, Gift, Cut, NoMemory}
 use Rattle.branch_core.specs.Replaced.{Replaced, own_node, given, cut, no_memory}
 use Rattle.branch_core.specs.SearchTree.{SearchTree, Node, IsSearchTree, splits}
-use Rattle.branch_walk.specs.Jobs.{turns_taken, lefts, MayBeGiven}
-use Rattle.branch_walk.specs.Portions.{gifts, sat_keys, MayCut}
-use Rattle.branch_walk.specs.Tallies.{IsTally, IsOpen}
+use Rattle.branch_walk.specs.Jobs.{turns_taken}
+use Rattle.branch_core.specs.Portions.{lefts, MayBeGiven, gifts, sat_keys, MayCut}
+use Rattle.branch_walk.specs.Tallies.{IsTally, TakesOwnLeaf}
 use Rattle.branch_walk.specs.Turning.{EndsLeft, beside}
 use Rattle.branch_walk.specs.Walks.{Heard, Hears, GoesOn, IsReady, IsWalked, HasWalkedLeft, gift_if}
 use Rattle.branch_walk.specs.declared.state.State.{State}
@@ -25,7 +26,7 @@ use Rattle.branch_walk.proofs.Descents.{goes_more}
 use Rattle.branch_walk.proofs.Ends.{longer}
 use Rattle.branch_walk.proofs.Pushes.{open_loses, open_takes}
 use Rattle.branch_walk.proofs.LeftRight.{below_left, children_apart}
-use Rattle.branch_walk.proofs.Places.{replaced_more, may_left, may_right}
+use Rattle.branch_walk.proofs.Places.{may_left, may_right}
 use Rattle.branch_walk.proofs.Subtrees.{hears_more, hears_none, gifts_append, sats_append, grown_some}
 use Rattle.branch_walk.proofs.TreesBelow.{tree_of}
 use Rattle.branch_walk.proofs.TurnsTaken.{turns_left, turns_right}
@@ -126,7 +127,7 @@ module _ (problem : ProblemValue) (bounds : Bounds) (share : ℕ) (away : Bool) 
       }
 
   right_tree : (hl : HasWalkedLeft problem bounds share away right base state stands_at node start mid first was) → (tree : SearchTree) × IsSearchTree problem bounds (right_of node hl.split.l hl.split.kind) tree
-  right_tree hl = tree_of problem bounds hl.grown.0 (right_of node hl.split.l hl.split.kind) (went_right hl.grown.1 hl.split.next)
+  right_tree hl = tree_of problem bounds (right_of node hl.split.l hl.split.kind) (went_right hl.grown hl.split.next)
 
   left_state : (hl : HasWalkedLeft problem bounds share away right base state stands_at node start mid first was) → (told : List ℕ) (more : List Piece) → sat_keys more ≡ [] → GoesOn state (hl.walked.told ++ told) (hl.walked.more ++ more) (turns_taken node)
   left_state hl told more none =
@@ -198,19 +199,19 @@ pub same_gifts : {J : Type 0} {a b c : Turns → J → Type 0} → SameGifts a b
 same_gifts f g path work = (λ h. (g path work).0 ((f path work).0 h), λ h. (f path work).1 ((g path work).1 h))
 
 -- ---- the left branch that was walked
-pub ready_open : (state : State) (tally : Tally) → IsOpen tally → IsReady state tally
+pub ready_open : (state : State) (tally : Tally) → TakesOwnLeaf tally → IsReady state tally
 ready_open Going tally h = h
 ready_open (Cutting cut_key) tally h = open_takes cut_key tally.last h
 ready_open Lost tally h = open_loses tally.last h
 
 module _ (problem : ProblemValue) (bounds : Bounds) (share : ℕ) (away : Bool) (right : Turns) (base : ℕ) (state : State) (stands_at node : Context) (start mid : Heard) (first was : Tally) (hl : HasWalkedLeft problem bounds share away right base state stands_at node start mid first was) where
   pub left_ends : EndsLeft hl.left
-  left_ends = record { before = node; left = split_entry hl.split.l hl.split.kind SplitLeft; some = grown_some hl.grown.1; is = hl.split.is; is_left = refl }
+  left_ends = record { before = node; left = split_entry hl.split.l hl.split.kind SplitLeft; some = grown_some hl.grown; is = hl.split.is; is_left = refl }
 
-  pub left_is_grown : (positive : Bool) × IsGrown problem bounds positive hl.left
+  pub left_is_grown : IsGrown problem bounds hl.left
   left_is_grown =
-      let P : Context → Type 0 = λ c. IsGrown problem bounds hl.grown.0 c in
-      (hl.grown.0, subst P (sym hl.split.is) (went_left hl.grown.1 hl.split.next))
+      let P : Context → Type 0 = λ c. IsGrown problem bounds c in
+      subst P (sym hl.split.is) (went_left hl.grown hl.split.next)
 
   pub base_some : 1 ≤ base
   base_some =
@@ -219,10 +220,10 @@ module _ (problem : ProblemValue) (bounds : Bounds) (share : ℕ) (away : Bool) 
       let same = hl.at_base in
       omega (arith, many, more, same)
 
-  pub right_grown : (turned : Context) → turned ≡ add node (beside (split_entry hl.split.l hl.split.kind SplitLeft)) → (positive : Bool) × IsGrown problem bounds positive turned
+  pub right_grown : (turned : Context) → turned ≡ add node (beside (split_entry hl.split.l hl.split.kind SplitLeft)) → IsGrown problem bounds turned
   right_grown turned is =
-      let P : Context → Type 0 = λ c. IsGrown problem bounds hl.grown.0 c in
-      (hl.grown.0, subst P (sym is) (went_right hl.grown.1 hl.split.next))
+      let P : Context → Type 0 = λ c. IsGrown problem bounds c in
+      subst P (sym is) (went_right hl.grown hl.split.next)
 
 -- a path that went away, or did not
 pub given_if : (away : Bool) (right : Turns) (old new : List Turns) → new ≡ (if away then old ++ right ∷ [] else old) → new ≡ old ++ gift_if away right

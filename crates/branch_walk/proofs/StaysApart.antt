@@ -9,7 +9,7 @@ use Rattle.branch_core.specs.Joined.{Joins, SatTakes, NoMemoryTakes, closed_clos
 use Rattle.branch_core.specs.StandsFor.{part_of}
 use Rattle.branch_core.specs.declared.part.Part.{Part}
 use Rattle.branch_core.specs.declared.part.Part.TheVariants as part
-use Rattle.branch_walk.specs.Portions.{IsJoinedThrough}
+use Rattle.branch_core.specs.Portions.{IsJoinedThrough}
 use Rattle.branch_walk.specs.Tallies.{IsGift, StandApart, AllStandApart, AreClosedOff, EndsApart, TakesLeaf, AllowsCut, AllowsLoss, is_sat_or_cut}
 
 -- ---- one part more

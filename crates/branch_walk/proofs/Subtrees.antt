@@ -1,5 +1,5 @@
 -- The walk of a whole tree without gifts: where it stands, and how it ends.
-use Rattle.std.proofs.Common.{◌≡◌, ℕ, ◌<◌, ◌≤◌, Bool, true, List, [], ◌∷◌, ◌++◌, length, map, reverse, inl, inr, append-nil, append_assoc, refl, sym, subst, ap, ◌∙◌, arith}
+use Rattle.std.proofs.Common.{◌≡◌, ℕ, ◌<◌, ◌≤◌, true, List, [], ◌∷◌, ◌++◌, length, map, reverse, inl, inr, append-nil, append_assoc, refl, sym, subst, ap, ◌∙◌, arith}
 use Rattle.std.proofs.lemmas.Grind.{flat_map-append}
 use Rattle.std.proofs.lemmas.List.Elements.{All-nil}
 use Rattle.me_terms.specs.Values.{ProblemValue, EntryValue, Asserted, SplitLeft}
@@ -13,9 +13,9 @@ use Rattle.branch_core.specs.Pieces as piece
 use Rattle.branch_core.specs.Replaced.{Replaced, own_leaf, cut, no_memory}
 use Rattle.branch_core.specs.SearchTree.{SearchTree, Leaf, IsSearchTree, is_exhausted}
 use Rattle.branch_core.specs.Whole.{IsIn}
-use Rattle.branch_walk.specs.Jobs.{turns_taken, MayBeGiven}
-use Rattle.branch_walk.specs.Portions.{gift_of, sat_key_of, gifts, sat_keys, MayCut}
-use Rattle.branch_walk.specs.Tallies.{IsTally, IsOpen, cuts, losses}
+use Rattle.branch_walk.specs.Jobs.{turns_taken}
+use Rattle.branch_core.specs.Portions.{MayBeGiven, gift_of, sat_key_of, gifts, sat_keys, MayCut}
+use Rattle.branch_walk.specs.Tallies.{IsTally, TakesOwnLeaf, cuts, losses}
 use Rattle.branch_walk.specs.Turning.{IsAllBack, IsBackAtLeft, beside}
 use Rattle.branch_walk.specs.Walks.{Heard, Hears, GoesOn, HasLeaf, HasSat, IsWalked, IsVisited}
 use Rattle.branch_walk.specs.declared.state.State.{State}
@@ -105,7 +105,7 @@ pub record IsWalking (problem : ProblemValue) (bounds : Bounds) (root context : 
   pub passed : List Piece
   pub waiting : List Branch
   pub told : List ℕ
-  pub grown : (positive : Bool) × IsGrown problem bounds positive context
+  pub grown : IsGrown problem bounds context
   pub whole_tree : IsSearchTree problem bounds root whole
   pub tree : IsSearchTree problem bounds context own
   pub waits : Waiting problem bounds root context waiting
@@ -114,19 +114,19 @@ pub record IsWalking (problem : ProblemValue) (bounds : Bounds) (root context : 
   pub no_sats : sat_keys passed ≡ []
   pub hears : Hears heard now_heard [] told []
   pub tally : (before : List Piece) → IsTally bounds.list old before → IsTally bounds.list new (before ++ passed)
-  pub is_open : IsOpen new
+  pub is_open : TakesOwnLeaf new
 
 module _ (problem : ProblemValue) (bounds : Bounds) (root : Context) (heard : Heard) (old : Tally) where
-  pub walk_begins : (positive : Bool) → IsGrown problem bounds positive root → IsOpen old → IsWalking problem bounds root root heard heard old old
-  walk_begins positive grown first =
-      let own = tree_of problem bounds positive root grown in
+  pub walk_begins : IsGrown problem bounds root → TakesOwnLeaf old → IsWalking problem bounds root root heard heard old old
+  walk_begins grown first =
+      let own = tree_of problem bounds root grown in
       record {
         whole = own.0;
         own = own.0;
         passed = [];
         waiting = [];
         told = [];
-        grown = (positive, grown);
+        grown = grown;
         whole_tree = own.1;
         tree = own.1;
         waits = at_root refl refl;
@@ -142,8 +142,8 @@ module _ (problem : ProblemValue) (bounds : Bounds) (root : Context) (heard : He
   kept : (before : List Piece) (was now : Tally) → now ≡ was → IsTally bounds.list was before → IsTally bounds.list now before
   kept before was now same h = let P : Tally → Type 0 = λ t. IsTally bounds.list t before in subst P (sym same) h
 
-  opened : (was now : Tally) → now ≡ was → IsOpen was → IsOpen now
-  opened was now same h = let P : Tally → Type 0 = λ t. IsOpen t in subst P (sym same) h
+  opened : (was now : Tally) → now ≡ was → TakesOwnLeaf was → TakesOwnLeaf now
+  opened was now same h = let P : Tally → Type 0 = λ t. TakesOwnLeaf t in subst P (sym same) h
 
   no_left : (e : EntryValue) (c place : ℕ) (tuple : List ℕ) → e.reason ≡ Asserted c place tuple → e.reason ≡ SplitLeft → ⊥
   no_left e c place tuple why is = let bad : Asserted c place tuple ≡ SplitLeft = sym why ∙ is in cc bad
@@ -154,8 +154,7 @@ module _ (problem : ProblemValue) (bounds : Bounds) (root : Context) (heard : He
       let next = v.1 in
       let is = v.2 in
       let why = asserted_reason problem bounds from e next in
-      let positive = w.grown.0 in
-      let G : Context → Type 0 = λ c. IsGrown problem bounds positive c in
+      let G : Context → Type 0 = λ c. IsGrown problem bounds c in
       let S : Context → Type 0 = λ c. IsSearchTree problem bounds c w.own in
       record {
         whole = w.whole;
@@ -163,9 +162,9 @@ module _ (problem : ProblemValue) (bounds : Bounds) (root : Context) (heard : He
         passed = w.passed;
         waiting = w.waiting;
         told = w.told ++ told;
-        grown = (positive, subst G (sym is) (asserted w.grown.1 next));
+        grown = subst G (sym is) (asserted w.grown next);
         whole_tree = w.whole_tree;
-        tree = subst S (sym is) (assert_tree problem bounds positive from e w.grown.1 next w.own w.tree);
+        tree = subst S (sym is) (assert_tree problem bounds from e w.grown next w.own w.tree);
         waits = beside_none e is (no_left e why.0 why.1 why.2 why.3) w.waits;
         place = place_at (ap turns_taken is ∙ turns_assert problem bounds from e next) w.place;
         no_gifts = w.no_gifts;
@@ -181,9 +180,8 @@ module _ (problem : ProblemValue) (bounds : Bounds) (root : Context) (heard : He
       let kind = v.1 in
       let next = v.2 in
       let is = v.3 in
-      let positive = w.grown.0 in
-      let children = split_tree problem bounds positive from l kind w.grown.1 next w.own w.tree in
-      let G : Context → Type 0 = λ c. IsGrown problem bounds positive c in
+      let children = split_tree problem bounds from l kind w.grown next w.own w.tree in
+      let G : Context → Type 0 = λ c. IsGrown problem bounds c in
       let S : Context → Type 0 = λ c. IsSearchTree problem bounds c children.left in
       record {
         whole = w.whole;
@@ -191,7 +189,7 @@ module _ (problem : ProblemValue) (bounds : Bounds) (root : Context) (heard : He
         passed = w.passed;
         waiting = record { turns = turns_taken from ++ true ∷ []; tree = children.right } ∷ w.waiting;
         told = w.told ++ told;
-        grown = (positive, subst G (sym is) (went_left w.grown.1 next));
+        grown = subst G (sym is) (went_left w.grown next);
         whole_tree = w.whole_tree;
         tree = subst S (sym is) children.left_tree;
         waits = beside_left (split_entry l kind SplitLeft) is refl refl children.right_tree w.waits;
@@ -207,8 +205,7 @@ module _ (problem : ProblemValue) (bounds : Bounds) (root : Context) (heard : He
   walk_turns from mid to h now was new told sent some w hears none leaf b turned =
       let above = b.above in
       let beside_it = waits_beside problem bounds root from mid w.waiting w.waits b in
-      let positive = w.grown.0 in
-      let G : Context → Type 0 = λ c. (sign : Bool) × IsGrown problem bounds sign c in
+      let G : Context → Type 0 = λ c. IsGrown problem bounds c in
       let S : Context → Type 0 = λ c. IsSearchTree problem bounds c beside_it.right in
       let one : Branch = record { turns = turns_taken b.before ++ true ∷ []; tree = beside_it.right } in
       let piece_here : Piece = leaf_piece (turns_taken from) leaf.outcome in
@@ -221,7 +218,7 @@ module _ (problem : ProblemValue) (bounds : Bounds) (root : Context) (heard : He
         passed = w.passed ++ piece_here ∷ [];
         waiting = beside_it.later;
         told = w.told ++ told;
-        grown = subst G (sym turned) (turns problem bounds positive from b.before b.later b.left w.grown.1 b.was (omega (arith, some, above)) b.is_left).turned;
+        grown = subst G (sym turned) (turns problem bounds from b.before b.later b.left w.grown b.was (omega (arith, some, above)) b.is_left).turned;
         whole_tree = w.whole_tree;
         tree = subst S (sym turned) beside_it.tree;
         waits = beside_none (beside b.left) turned (λ is. cc is) beside_it.waits;
@@ -351,18 +348,18 @@ module _ (problem : ProblemValue) (bounds : Bounds) where
       let less = work_add bounds.literals from (split_entry v.0 v.1 SplitLeft) v.2.2 in
       omega (arith, is, less)
 
-  pub less_turned : (positive : Bool) (from mid to : Context) (base : ℕ) → 1 ≤ base → IsGrown problem bounds positive from → (b : IsBackAtLeft base from mid) → to ≡ add b.before (beside b.left) → work bounds.literals to < work bounds.literals from
-  less_turned positive from mid to base some grown b turned =
+  pub less_turned : (from mid to : Context) (base : ℕ) → 1 ≤ base → IsGrown problem bounds from → (b : IsBackAtLeft base from mid) → to ≡ add b.before (beside b.left) → work bounds.literals to < work bounds.literals from
+  less_turned from mid to base some grown b turned =
       let above = b.above in
-      let can = (turns problem bounds positive from b.before b.later b.left grown b.was (omega (arith, some, above)) b.is_left).can in
+      let can = (turns problem bounds from b.before b.later b.left grown b.was (omega (arith, some, above)) b.is_left).can in
       let less = work_turn bounds.literals b.before b.left (beside b.left) b.later can.room b.is_left refl in
       let is = ap (work bounds.literals) turned in
       let was = ap (work bounds.literals) b.was in
       omega (arith, less, is, was)
 
 -- a grown context has an entry
-pub grown_some : {problem : ProblemValue} {bounds : Bounds} {positive : Bool} {context : Context} → IsGrown problem bounds positive context → 1 ≤ length context
-grown_some {problem} {bounds} {positive} {context} h =
+pub grown_some : {problem : ProblemValue} {bounds : Bounds} {context : Context} → IsGrown problem bounds context → 1 ≤ length context
+grown_some {problem} {bounds} {context} h =
     let first = (grown h).0.first in
     slice_get_within context 0 (pseudo first.0) first.1
 

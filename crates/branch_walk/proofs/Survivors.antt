@@ -6,7 +6,7 @@ use Rattle.branch_core.specs.Paths.{Turns, key}
 use Rattle.branch_core.specs.Pieces.{Piece, Closed, Bounded, Sat, Gift, Cut, NoMemory}
 use Rattle.branch_core.specs.Joined.{Joins, Joined, SatTakes, NoMemoryTakes, as_they_are, join, closed_closed, closed_bounded, bounded_closed, bounded_bounded, closed_sat, bounded_sat, sat_takes, takes_later, takes_earlier, cut_cut}
 use Rattle.branch_core.specs.Whole.{IsIn}
-use Rattle.branch_walk.specs.Portions.{gift_of, gifts, sat_key_of, sat_keys, MayCut}
+use Rattle.branch_core.specs.Portions.{gift_of, gifts, sat_key_of, sat_keys, MayCut}
 
 -- ---- gifts
 sat_no_gift : (p : Piece) → SatTakes p → gift_of p ≡ []

@@ -1,5 +1,5 @@
 -- The tree of a grown context stands in the tree of the whole search, where its turns lead.
-use Rattle.std.proofs.Common.{◌≡◌, Bool, true, false, [], ◌∷◌, ◌++◌, Some, refl, sym, subst, ap, ◌∙◌}
+use Rattle.std.proofs.Common.{◌≡◌, true, false, [], ◌∷◌, ◌++◌, Some, refl, sym, subst, ap, ◌∙◌}
 use Rattle.std.proofs.lemmas.Option.{same_Some}
 use Rattle.me_terms.specs.Values.{ProblemValue}
 use Rattle.me_terms.specs.Context.{Context}
@@ -25,22 +25,22 @@ pub record IsAt (problem : ProblemValue) (bounds : Bounds) (search : SearchTree)
   pub tree : IsSearchTree problem bounds context own
   pub at : subtree search (turns_taken context) ≡ Some own
 
-pub tree_at : {problem : ProblemValue} {bounds : Bounds} {positive : Bool} {context : Context} → IsGrown problem bounds positive context → (search : SearchTree) → IsSearchTree problem bounds (start positive) search → IsAt problem bounds search context
+pub tree_at : {problem : ProblemValue} {bounds : Bounds} {context : Context} → IsGrown problem bounds context → (search : SearchTree) → IsSearchTree problem bounds (start bounds.start) search → IsAt problem bounds search context
 tree_at started search tree = record { own = search; tree = tree; at = refl }
-tree_at {problem} {bounds} {positive} (asserted {context = context} {e = e} h next) search tree =
+tree_at {problem} {bounds} (asserted {context = context} {e = e} h next) search tree =
     let up = tree_at h search tree in
     record {
       own = up.own;
-      tree = assert_tree problem bounds positive context e h next up.own up.tree;
+      tree = assert_tree problem bounds context e h next up.own up.tree;
       at = ap (subtree search) (turns_assert problem bounds context e next) ∙ up.at;
     }
-tree_at {problem} {bounds} {positive} (went_left {context = context} {l = l} {kind = kind} h next) search tree =
+tree_at {problem} {bounds} (went_left {context = context} {l = l} {kind = kind} h next) search tree =
     let up = tree_at h search tree in
-    let children = split_tree problem bounds positive context l kind h next up.own up.tree in
+    let children = split_tree problem bounds context l kind h next up.own up.tree in
     let there = children_at search children.left children.right (turns_taken context) (up.at ∙ ap (λ (s : SearchTree). Some s) children.is) in
     record { own = children.left; tree = children.left_tree; at = ap (subtree search) (turns_left context l kind) ∙ there.0 }
-tree_at {problem} {bounds} {positive} (went_right {context = context} {l = l} {kind = kind} h next) search tree =
+tree_at {problem} {bounds} (went_right {context = context} {l = l} {kind = kind} h next) search tree =
     let up = tree_at h search tree in
-    let children = split_tree problem bounds positive context l kind h next up.own up.tree in
+    let children = split_tree problem bounds context l kind h next up.own up.tree in
     let there = children_at search children.left children.right (turns_taken context) (up.at ∙ ap (λ (s : SearchTree). Some s) children.is) in
     record { own = children.right; tree = children.right_tree; at = ap (subtree search) (turns_right context l kind) ∙ there.1 }

@@ -1,5 +1,5 @@
 -- What a visit of a node adds to the tally.
-use Rattle.std.proofs.Common.{ℕ, Bool, List, [], ◌∷◌, ◌++◌, append-nil, refl, ap, ◌∙◌}
+use Rattle.std.proofs.Common.{ℕ, List, [], ◌∷◌, ◌++◌, append-nil, refl, ap, ◌∙◌}
 use Rattle.me_terms.specs.Values.{ProblemValue, InstanceValue}
 use Rattle.me_terms.specs.Context.{Context}
 use Rattle.me_terms.specs.Grown.{IsGrown}
@@ -9,12 +9,12 @@ use Rattle.me_terms.specs.Outcome as outcome
 use Rattle.me_terms.specs.declared.bounds.Bound.{Bound}
 use Rattle.me_terms.specs.declared.bounds.Bounds.{Bounds}
 use Rattle.me_laws.proofs.Backed.{grown_backed}
-use Rattle.me_existence.proofs.Outcomes.{leaf_list}
+use Rattle.me_laws_existence.proofs.Outcomes.{leaf_list}
 use Rattle.branch_core.specs.Paths.{Turns}
 use Rattle.branch_core.specs.Pieces.{Piece}
 use Rattle.branch_core.specs.Pieces as piece
 use Rattle.branch_core.specs.SearchTree.{closes, is_bounded}
-use Rattle.branch_walk.specs.Tallies.{IsTally, IsOpen}
+use Rattle.branch_walk.specs.Tallies.{IsTally, TakesOwnLeaf}
 use Rattle.branch_walk.specs.Walks.{Heard, Hears, HasLeaf}
 use Rattle.branch_walk.specs.declared.tally.Tally.{Tally}
 
@@ -25,8 +25,8 @@ hears_then {a} {b} {c} {told} {sent} f g = record {
   posted = g.posted ∙ (ap (λ (x : List ℕ). x ++ sent) f.posted ∙ ap (λ (x : List ℕ). x ++ sent) (append-nil a.posted));
 }
 
-pub closed_leaf : (problem : ProblemValue) (bounds : Bounds) (positive : Bool) (context : Context) → IsGrown problem bounds positive context → (c : ℕ) (tuple : List ℕ) → IsNext problem bounds context (Close c tuple) → (old new : Tally) → IsOpen new → ((leaves : List Piece) (list : List InstanceValue) → IsTally bounds.list old leaves → IsLeafList problem context c tuple list → IsTally bounds.list new (leaves ++ piece.Closed list ∷ [])) → HasLeaf problem bounds context old new
-closed_leaf problem bounds positive context grown c tuple next old new is_open adds =
+pub closed_leaf : (problem : ProblemValue) (bounds : Bounds) (context : Context) → IsGrown problem bounds context → (c : ℕ) (tuple : List ℕ) → IsNext problem bounds context (Close c tuple) → (old new : Tally) → TakesOwnLeaf new → ((leaves : List Piece) (list : List InstanceValue) → IsTally bounds.list old leaves → IsLeafList problem context c tuple list → IsTally bounds.list new (leaves ++ piece.Closed list ∷ [])) → HasLeaf problem bounds context old new
+closed_leaf problem bounds context grown c tuple next old new is_open adds =
     let more = leaf_list problem bounds context (grown_backed grown) c tuple next.0 in
     record {
       outcome = outcome.Closed more.0;
@@ -36,7 +36,7 @@ closed_leaf problem bounds positive context grown c tuple next old new is_open a
       tally = λ before h. adds before more.0 h more.1;
     }
 
-pub bounded_leaf : (problem : ProblemValue) (bounds : Bounds) (context : Context) (b : Bound) → IsNext problem bounds context (Bounded b) → (old new : Tally) → IsOpen new → ((n : ℕ) (leaves : List Piece) → IsTally n old leaves → IsTally n new (leaves ++ piece.Bounded b ∷ [])) → HasLeaf problem bounds context old new
+pub bounded_leaf : (problem : ProblemValue) (bounds : Bounds) (context : Context) (b : Bound) → IsNext problem bounds context (Bounded b) → (old new : Tally) → TakesOwnLeaf new → ((n : ℕ) (leaves : List Piece) → IsTally n old leaves → IsTally n new (leaves ++ piece.Bounded b ∷ [])) → HasLeaf problem bounds context old new
 bounded_leaf problem bounds context b next old new is_open adds = record {
   outcome = outcome.Met b;
   tree = is_bounded next;

@@ -1,11 +1,10 @@
 -- Jobs: a path, and the context at which its walk begins.
-use Rattle.std.specs.Prelude.{◌≡◌, ◌≤◌, ℕ, zero, suc, Bool, true, false, [], ◌∷◌, ◌++◌, length}
+use Rattle.std.specs.Prelude.{◌≡◌, true, false, [], ◌∷◌, ◌++◌}
 use Rattle.me_terms.specs.Values.{ProblemValue, ReasonValue, Pseudo, Asserted, SplitLeft, SplitRight}
 use Rattle.me_terms.specs.Context.{Context}
 use Rattle.me_terms.specs.Grown.{IsGrown}
 use Rattle.me_terms.specs.declared.bounds.Bounds.{Bounds}
-use Rattle.branch_core.specs.Core.{EndsRight}
-use Rattle.branch_core.specs.Paths.{Turns, ProperlyExtends}
+use Rattle.branch_core.specs.Paths.{Turns}
 
 -- The turn that an entry of a Split stands for. Other entries stand for none.
 abbrev pub turn_of : ReasonValue → Turns
@@ -19,19 +18,7 @@ abbrev pub turns_taken : Context → Turns
 turns_taken [] = []
 turns_taken (e ∷ later) = turn_of e.reason ++ turns_taken later
 
--- A walk of the path may begin at the context: it is one to which the rules lead, by the turns of the path and no more.
+-- A walk of the path may begin at the context: it is one to which the rules lead from the bounds' start, by the turns of the path and no more.
 pub record IsJob (problem : ProblemValue) (bounds : Bounds) (path : Turns) (context : Context) : Type 0 where
-  pub grown : (positive : Bool) × IsGrown problem bounds positive context
+  pub grown : IsGrown problem bounds context
   pub turns : turns_taken context ≡ path
-
--- So many turns to the left.
-abbrev pub lefts : ℕ → Turns
-lefts zero = []
-lefts (suc n) = false ∷ lefts n
-
--- What a walk of the path may give away: the right child of a node to which left turns alone lead from the path, of at most `share` turns.
-pub record MayBeGiven (share : ℕ) (path gift : Turns) : Type 0 where
-  pub below : ProperlyExtends gift path
-  pub right : EndsRight gift
-  pub few : length gift ≤ share
-  pub beside_left : (n : ℕ) × (gift ≡ path ++ (lefts n ++ true ∷ []))

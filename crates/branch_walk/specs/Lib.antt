@@ -1,5 +1,5 @@
 pub mod Jobs
-pub mod Portions
+pub mod OwnParts
 pub mod Tallies
 pub mod Turning
 pub mod Walks

@@ -110,8 +110,8 @@ pub record IsTally (list_bound : ℕ) (tally : Tally) (leaves : List Piece) : Ty
   pub apart : EndsApart (map part_value tally.parts.items) tally.last
 
 -- So many further parts fit with no allocation.
-abbrev pub HasRoom : ℕ → Tally → Type 0
-HasRoom n tally = n ≤ tally.parts.spare
+abbrev pub HasSpare : ℕ → Tally → Type 0
+HasSpare n tally = n ≤ tally.parts.spare
 
 -- From the one tally to the other at most so many parts came to stand before the last one.
 pub record AddsAtMost (n : ℕ) (old new : Tally) : Type 0 where
@@ -179,8 +179,8 @@ is_sat_or_cut (Some (Cut key)) = true
 is_sat_or_cut (Some NoMemory) = false
 
 -- A tally that takes in an own leaf.
-abbrev pub IsOpen : Tally → Type 0
-IsOpen tally = TakesLeaf tally.last
+abbrev pub TakesOwnLeaf : Tally → Type 0
+TakesOwnLeaf tally = TakesLeaf tally.last
 
 -- A tally that takes in a Cut with this key.
 abbrev pub TakesCut : ℕ → Tally → Type 0

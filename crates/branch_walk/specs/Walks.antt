@@ -15,9 +15,9 @@ use Rattle.branch_core.specs.Pieces.{Piece, Sat, leaf_piece}
 use Rattle.branch_core.specs.Replaced.{Replaced}
 use Rattle.branch_core.specs.SearchTree.{SearchTree, Leaf, IsSearchTree}
 use Rattle.branch_core.specs.Whole.{IsIn}
-use Rattle.branch_walk.specs.Jobs.{turns_taken, MayBeGiven}
-use Rattle.branch_walk.specs.Portions.{gifts, sat_key_of, sat_keys, MayCut}
-use Rattle.branch_walk.specs.Tallies.{IsTally, IsOpen, TakesCut, TakesLoss, IsSated}
+use Rattle.branch_walk.specs.Jobs.{turns_taken}
+use Rattle.branch_core.specs.Portions.{MayBeGiven, gifts, sat_key_of, sat_keys, MayCut}
+use Rattle.branch_walk.specs.Tallies.{IsTally, TakesOwnLeaf, TakesCut, TakesLoss, IsSated}
 use Rattle.branch_walk.specs.declared.tally.Tally.{Tally}
 use Rattle.branch_walk.specs.declared.state.State.{State}
 use Rattle.branch_walk.specs.declared.state.State.TheVariants.{Going, Cutting, Lost}
@@ -38,7 +38,7 @@ pub record Hears (old new : Heard) (gave : List Turns) (told sent : List ℕ) : 
 
 -- The tally takes in what follows in this state.
 abbrev pub IsReady : State → Tally → Type 0
-IsReady Going tally = IsOpen tally
+IsReady Going tally = TakesOwnLeaf tally
 IsReady (Cutting cut_key) tally = TakesCut cut_key tally
 IsReady Lost tally = TakesLoss tally
 
@@ -70,7 +70,7 @@ pub record HasLeaf (problem : ProblemValue) (bounds : Bounds) (context : Context
   pub outcome : TreeOutcome
   pub tree : IsSearchTree problem bounds context (Leaf outcome)
   pub no_sat : sat_key_of (leaf_piece (turns_taken context) outcome) ≡ []
-  pub is_open : IsOpen new
+  pub is_open : TakesOwnLeaf new
   pub tally : (before : List Piece) → IsTally bounds.list old before → IsTally bounds.list new (before ++ leaf_piece (turns_taken context) outcome ∷ [])
 
 -- An exhausted leaf came to the tally.
@@ -95,7 +95,7 @@ IsVisited problem bounds from to old new told sent visit.Lost = (new ≡ old) ×
 
 -- The node is reached from the context by Asserts: both have the same tree and turns.
 pub record LeadsTo (problem : ProblemValue) (bounds : Bounds) (context node : Context) : Type 0 where
-  pub grown : (positive : Bool) × IsGrown problem bounds positive node
+  pub grown : IsGrown problem bounds node
   pub turns : turns_taken node ≡ turns_taken context
   pub tree : (own : SearchTree) → IsSearchTree problem bounds node own → IsSearchTree problem bounds context own
 
@@ -109,7 +109,7 @@ pub record IsLeftOfSplit (problem : ProblemValue) (bounds : Bounds) (node contex
 -- The path is that of the right branch beside the left branch that ends the context.
 pub record IsBeside (problem : ProblemValue) (bounds : Bounds) (right : Turns) (context : Context) : Type 0 where
   pub node : Context
-  pub grown : (positive : Bool) × IsGrown problem bounds positive node
+  pub grown : IsGrown problem bounds node
   pub split : IsLeftOfSplit problem bounds node context
   pub right_is : right ≡ turns_taken node ++ true ∷ []
 
@@ -122,7 +122,7 @@ gift_if false right = []
 pub record HasWalkedLeft (problem : ProblemValue) (bounds : Bounds) (share : ℕ) (away : Bool) (right : Turns) (base : ℕ) (state : State) (stands_at node : Context) (start now_heard : Heard) (first now : Tally) : Type 0 where
   pub left : Context
   pub heard : Heard
-  pub grown : (positive : Bool) × IsGrown problem bounds positive node
+  pub grown : IsGrown problem bounds node
   pub split : IsLeftOfSplit problem bounds node left
   pub right_is : right ≡ turns_taken node ++ true ∷ []
   pub few : length right ≤ share

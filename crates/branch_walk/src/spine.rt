@@ -1,13 +1,14 @@
 //! The walk near the path of a job, which gives right children away.
-ghost use Rattle.std.specs.Prelude.{◌≡◌, ◌<◌, ◌≤◌, ◌+◌, ◌-◌, ◌*◌, ◌++◌, ◌∷◌, [], ℕ, Bool, true, false, List, length, IfOk, MatchOption, if◌then◌else◌};
+ghost use Rattle.std.specs.Prelude.{◌≡◌, ◌<◌, ◌≤◌, ◌+◌, ◌-◌, ◌*◌, ◌++◌, ◌∷◌, [], ℕ, true, false, List, length, IfOk, MatchOption, if◌then◌else◌};
 ghost use Rattle.me_terms.specs.Validity.{IsLawful, IsValid};
 ghost use Rattle.me_terms.specs.Context.{Context};
 ghost use Rattle.me_terms.specs.Grown.{IsGrown};
 ghost use Rattle.branch_core.specs.Hooks.{SameGifts};
 ghost use Rattle.branch_core.specs.Paths.{Turns};
 ghost use Rattle.branch_core.specs.Pieces.{Piece};
-ghost use Rattle.branch_walk.specs.Jobs.{IsJob, MayBeGiven, turns_taken};
-ghost use Rattle.branch_walk.specs.Tallies.{IsTally, AddsAtMost, HasRoom, IsOpen};
+ghost use Rattle.branch_walk.specs.Jobs.{IsJob, turns_taken};
+ghost use Rattle.branch_core.specs.Portions.{MayBeGiven};
+ghost use Rattle.branch_walk.specs.Tallies.{IsTally, AddsAtMost, HasSpare, TakesOwnLeaf};
 ghost use Rattle.branch_walk.specs.Walks.{HasWalkedLeft, Hears, Heard, IsBeside, IsLeftOfSplit, IsReady, IsWalked, LeadsTo};
 ghost use Rattle.branch_walk.specs.declared.job.Job.{Job as JobOf};
 ghost use Rattle.branch_walk.specs.declared.state.State.TheVariants.{Going};
@@ -65,9 +66,9 @@ impl<'a> Search<'a> {
         requires bounds { IsLawful self.now.bounds.now }
         requires share { share ≤ 16 }
         requires job { IsJob self.now.problem.now self.now.bounds.now path (T.context branch.old) }
-        requires open { IsOpen tally.old }
+        requires open { TakesOwnLeaf tally.old }
         requires kept { (before : List Piece) × IsTally self.now.bounds.now.list tally.old before }
-        requires room { HasRoom (2 * (share - length path) + 1) tally.old }
+        requires room { HasSpare (2 * (share - length path) + 1) tally.old }
         requires hook { (gift : Turns) (work : JobOf T) → MayBeGiven share path gift → IsJob self.now.problem.now self.now.bounds.now gift (T.context work.branch) → work.path ≡ gift → H.may_give hook.old gift work }
         ensures walked { IsWalked self.now.problem.now self.now.bounds.now share (T.context branch.old) result (record { given = H.given hook.old; seen = H.seen hook.old; posted = H.posted hook.old }) (record { given = H.given hook.new; seen = H.seen hook.new; posted = H.posted hook.new }) tally.old tally.new }
         ensures ready { IsReady result tally.new }
@@ -99,10 +100,10 @@ impl<'a> Search<'a> {
     ) -> Option<State>
         requires valid { IsValid self.now.problem.now }
         requires bounds { IsLawful self.now.bounds.now }
-        requires grown { (positive : Bool) × IsGrown self.now.problem.now self.now.bounds.now positive (T.context branch.old) }
-        requires open { IsOpen tally.old }
+        requires grown { IsGrown self.now.problem.now self.now.bounds.now (T.context branch.old) }
+        requires open { TakesOwnLeaf tally.old }
         requires kept { (before : List Piece) × IsTally self.now.bounds.now.list tally.old before }
-        requires room { HasRoom 1 tally.old }
+        requires room { HasSpare 1 tally.old }
         ensures ended { MatchOption result ((told : List ℕ) × (node : Context) × Hears (record { given = H.given hook.old; seen = H.seen hook.old; posted = H.posted hook.old }) (record { given = H.given hook.new; seen = H.seen hook.new; posted = H.posted hook.new }) [] told [] × LeadsTo self.now.problem.now self.now.bounds.now (T.context branch.old) node × IsLeftOfSplit self.now.problem.now self.now.bounds.now node (T.context branch.new) × (tally.new ≡ tally.old) × ((later : Context) × (node ≡ T.context branch.old ++ later))) (λ state. ((share : ℕ) → IsWalked self.now.problem.now self.now.bounds.now share (T.context branch.old) state (record { given = H.given hook.old; seen = H.seen hook.old; posted = H.posted hook.old }) (record { given = H.given hook.new; seen = H.seen hook.new; posted = H.posted hook.new }) tally.old tally.new) × IsReady state tally.new × (state ≡ Going → (later : Context) × (T.context branch.new ≡ T.context branch.old ++ later))) }
         ensures pushes { AddsAtMost 1 tally.old tally.new }
         ensures condition { SameGifts (H.may_give hook.old) (H.may_give hook.new) }
@@ -171,7 +172,7 @@ impl<'a> Search<'a> {
         requires bounds { IsLawful self.now.bounds.now }
         requires ready { IsReady state tally.old }
         requires kept { (before : List Piece) × IsTally self.now.bounds.now.list tally.old before }
-        requires room { HasRoom 2 tally.old }
+        requires room { HasSpare 2 tally.old }
         requires left { (share : ℕ) × (node : Context) × (start : Heard) × (first : TallyOf) × HasWalkedLeft self.now.problem.now self.now.bounds.now share away right base state (T.context branch.old) node start (record { given = H.given hook.old; seen = H.seen hook.old; posted = H.posted hook.old }) first tally.old }
         ensures walked { (share : ℕ) (node : Context) (start : Heard) (first : TallyOf) → HasWalkedLeft self.now.problem.now self.now.bounds.now share away right base state (T.context branch.old) node start (record { given = H.given hook.old; seen = H.seen hook.old; posted = H.posted hook.old }) first tally.old → IsWalked self.now.problem.now self.now.bounds.now share node result start (record { given = H.given hook.new; seen = H.seen hook.new; posted = H.posted hook.new }) first tally.new × (result ≡ Going → (later : Context) × (T.context branch.new ≡ node ++ later)) }
         ensures ready { IsReady result tally.new }

@@ -2,12 +2,12 @@
 //!
 //! The entries of the branch tell what is left to do: beside each entry of a left branch stands a right
 //! branch that was not gone yet.
-ghost use Rattle.std.specs.Prelude.{◌≡◌, ◌≤◌, [], ℕ, Bool, List};
+ghost use Rattle.std.specs.Prelude.{◌≡◌, ◌≤◌, [], ℕ, List};
 ghost use Rattle.me_terms.specs.Validity.{IsLawful, IsValid};
 ghost use Rattle.me_terms.specs.Grown.{IsGrown};
 ghost use Rattle.branch_core.specs.Hooks.{SameGifts};
 ghost use Rattle.branch_core.specs.Pieces.{Piece};
-ghost use Rattle.branch_walk.specs.Tallies.{IsTally, AddsAtMost, HasRoom, IsOpen};
+ghost use Rattle.branch_walk.specs.Tallies.{IsTally, AddsAtMost, HasSpare, TakesOwnLeaf};
 ghost use Rattle.branch_walk.specs.Walks.{IsReady, IsWalked};
 ghost use Rattle.branch_walk.specs.declared.state.State.TheVariants.{Going};
 
@@ -29,10 +29,10 @@ impl<'a> Search<'a> {
     ) -> State
         requires valid { IsValid self.now.problem.now }
         requires bounds { IsLawful self.now.bounds.now }
-        requires grown { (positive : Bool) × IsGrown self.now.problem.now self.now.bounds.now positive (T.context branch.old) }
-        requires open { IsOpen tally.old }
+        requires grown { IsGrown self.now.problem.now self.now.bounds.now (T.context branch.old) }
+        requires open { TakesOwnLeaf tally.old }
         requires kept { (before : List Piece) × IsTally self.now.bounds.now.list tally.old before }
-        requires room { HasRoom 1 tally.old }
+        requires room { HasSpare 1 tally.old }
         ensures walked { (share : ℕ) → IsWalked self.now.problem.now self.now.bounds.now share (T.context branch.old) result (record { given = H.given hook.old; seen = H.seen hook.old; posted = H.posted hook.old }) (record { given = H.given hook.new; seen = H.seen hook.new; posted = H.posted hook.new }) tally.old tally.new }
         ensures ready { IsReady result tally.new }
         ensures stands { result ≡ Going → T.context branch.new ≡ T.context branch.old }

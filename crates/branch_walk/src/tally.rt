@@ -15,7 +15,7 @@ ghost use Rattle.branch_core.specs.Parts as value;
 ghost use Rattle.branch_core.specs.PartViews.{part_value};
 ghost use Rattle.branch_core.specs.StandsFor.{part_of};
 ghost use Rattle.ground_refutation.specs.Queue.{IsGrownOver};
-ghost use Rattle.branch_walk.specs.Tallies.{IsTally, HasRoom, AddsAtMost, IsOpen, TakesCut, TakesLoss, IsSated, AllStandApart, EndsApart, AllowsCut, cuts, losses, is_bounded, is_sat, is_sat_or_cut};
+ghost use Rattle.branch_walk.specs.Tallies.{IsTally, HasSpare, AddsAtMost, TakesOwnLeaf, TakesCut, TakesLoss, IsSated, AllStandApart, EndsApart, AllowsCut, cuts, losses, is_bounded, is_sat, is_sat_or_cut};
 
 use crate::entries::entries_of;
 use crate::listing::{join_listed, leaf_listed};
@@ -38,7 +38,7 @@ impl Tally {
     pub(crate) fn new(room: Parts) -> Self
         requires { room.items ≡ [] }
         ensures tally { (list_bound : ℕ) → IsTally list_bound result [] }
-        ensures open { IsOpen result }
+        ensures open { TakesOwnLeaf result }
         ensures parts { result.parts ≡ room }
     {
         Tally {
@@ -49,9 +49,9 @@ impl Tally {
 
     /// With a leaf more, at which a bound is met.
     pub(crate) fn add_bound(&mut self, bound: Bound)
-        requires { IsOpen self.old }
+        requires { TakesOwnLeaf self.old }
         ensures tally { (list_bound : ℕ) (leaves : List Piece) → IsTally list_bound self.old leaves → IsTally list_bound self.new (leaves ++ piece.Bounded bound ∷ []) }
-        ensures open { IsOpen self.new }
+        ensures open { TakesOwnLeaf self.new }
         ensures pushes { AddsAtMost 0 self.old self.new }
     {
         if self.is_met() {
@@ -74,10 +74,10 @@ impl Tally {
         requires bounds { IsLawful bounds.now }
         requires grown { IsGrownOver problem.now (T.context branch.now) }
         requires closes { IsNext problem.now bounds.now (T.context branch.now) (Close clause tuple.now.items) }
-        requires open { IsOpen self.old }
+        requires open { TakesOwnLeaf self.old }
         requires kept { (leaves : List Piece) × IsTally bounds.now.list self.old leaves }
         ensures tally { OnOk result ((leaves : List Piece) (list : List InstanceValue) → IsTally bounds.now.list self.old leaves → IsLeafList problem.now (T.context branch.now) clause tuple.now.items list → IsTally bounds.now.list self.new (leaves ++ piece.Closed list ∷ [])) }
-        ensures open { IsOpen self.new }
+        ensures open { TakesOwnLeaf self.new }
         ensures pushes { AddsAtMost 0 self.old self.new }
         ensures err { OnErr result (self.new ≡ self.old) }
     {
@@ -118,7 +118,7 @@ impl Tally {
 
     /// With an exhausted leaf more.
     pub(crate) fn add_sat<T: Trunk>(&mut self, alloc: Global, branch: &T) -> Result<(), AllocError>
-        requires { IsOpen self.old }
+        requires { TakesOwnLeaf self.old }
         ensures tally { OnOk result ((list_bound : ℕ) (leaves : List Piece) (turns : Turns) → IsTally list_bound self.old leaves → IsTally list_bound self.new (leaves ++ piece.Sat turns (T.context branch.now) ∷ [])) }
         ensures sated { OnOk result (IsSated self.new) }
         ensures pushes { AddsAtMost 0 self.old self.new }
@@ -132,7 +132,7 @@ impl Tally {
     /// With one or more neighbouring nodes that are cut.
     pub(crate) fn cut(&mut self, key: u16)
         requires takes { TakesCut key self.old }
-        requires room { HasRoom 1 self.old }
+        requires room { HasSpare 1 self.old }
         ensures tally { (list_bound : ℕ) (leaves : List Piece) (turns : Turns) (later : List Turns) → IsTally list_bound self.old leaves → IsTally list_bound self.new (leaves ++ cuts key (turns ∷ later)) }
         ensures takes { TakesCut key self.new }
         ensures pushes { AddsAtMost 1 self.old self.new }
@@ -159,9 +159,9 @@ impl Tally {
 
     /// With a node that was given away.
     pub(crate) fn give(&mut self, path: Path)
-        requires room { HasRoom 2 self.old }
+        requires room { HasSpare 2 self.old }
         ensures tally { (list_bound : ℕ) (leaves : List Piece) → IsTally list_bound self.old leaves → IsTally list_bound self.new (leaves ++ piece.Gift path ∷ []) }
-        ensures open { IsOpen self.new }
+        ensures open { TakesOwnLeaf self.new }
         ensures pushes { AddsAtMost 2 self.old self.new }
     {
         self.settle();
@@ -170,7 +170,7 @@ impl Tally {
 
     /// All the parts.
     pub(crate) fn finish(mut self) -> Parts
-        requires room { HasRoom 1 self }
+        requires room { HasSpare 1 self }
         ensures pieces { (list_bound : ℕ) (leaves : List Piece) → IsTally list_bound self leaves → (pieces : List Piece) × Joined leaves pieces × (map part_value result.items ≡ map (part_of list_bound) pieces) × AllStandApart (map part_value result.items) }
         ensures few { length result.items ≤ length self.parts.items + 1 }
     {
@@ -227,7 +227,7 @@ impl Tally {
 
     /// Puts the last part behind those to which nothing is joined any more.
     fn settle(&mut self)
-        requires room { HasRoom 1 self.old }
+        requires room { HasSpare 1 self.old }
         ensures pieces { (list_bound : ℕ) (leaves : List Piece) → IsTally list_bound self.old leaves → (pieces : List Piece) × Joined leaves pieces × (map part_value self.new.parts.items ≡ map (part_of list_bound) pieces) × AllStandApart (map part_value self.new.parts.items) }
         ensures cut { (key : ℕ) → EndsApart (map part_value self.old.parts.items) self.old.last → AllowsCut key self.old.last → is_sat_or_cut self.old.last ≡ false → AllStandApart (map part_value self.new.parts.items ++ value.Cut key ∷ []) }
         ensures none { self.new.last ≡ None }

@@ -1,10 +1,11 @@
 //! How a branch grows, goes back to the last left branch, and turns to the right there.
-ghost use Rattle.std.specs.Prelude.{◌≡◌, ◌<◌, ◌≤◌, ◌∷◌, [], ◌++◌, Bool, true, false, ◌↔◌, length, take, IsTrue, OnOk, IfOk};
+ghost use Rattle.std.specs.Prelude.{◌≡◌, ◌<◌, ◌≤◌, ◌∷◌, [], ◌++◌, true, false, ◌↔◌, length, take, IsTrue, OnOk, IfOk};
 ghost use Rattle.me_terms.specs.Validity.{IsLawful};
 ghost use Rattle.me_terms.specs.Values.{EntryValue, SplitLeft};
 ghost use Rattle.me_terms.specs.Context.{Context, IsLiteralEntry, add};
 ghost use Rattle.me_terms.specs.Contradictory.{Contradicts};
 ghost use Rattle.me_terms.specs.Grown.{IsGrown, split_entry};
+ghost use Rattle.me_terms.specs.declared.bounds.TheConstants.{MAX_ENTRIES};
 ghost use Rattle.branch_walk.specs.Turning.{EndsLeft, IsAllBack, IsBackAtLeft, beside};
 
 use me_terms::{Again, Bounds, Entry, Kind, Literal, Pattern, Problem, Reason, Trunk, View};
@@ -22,7 +23,7 @@ pub(crate) struct Search<'a> {
 pub(crate) fn grow<T: Trunk>(branch: &mut T, entry: Entry) -> Result<(), AllocError>
     requires literal { IsLiteralEntry entry }
     requires apart { ¬ Contradicts (T.context branch.old) entry.positive entry.kind entry.atom }
-    requires room { length (T.context branch.old) < 65535 }
+    requires room { length (T.context branch.old) < MAX_ENTRIES }
     ensures { OnOk result (T.context branch.new ≡ add (T.context branch.old) entry) }
 {
     match branch.extend(entry) {
@@ -103,7 +104,7 @@ impl<'a> Search<'a> {
     /// Turns from the left branch that the last entry begins to the right one beside it.
     pub(crate) fn turn_right<T: Trunk>(&self, branch: &mut T) -> Result<(), AllocError>
         requires bounds { IsLawful self.now.bounds.now }
-        requires grown { (positive : Bool) × IsGrown self.now.problem.now self.now.bounds.now positive (T.context branch.old) }
+        requires grown { IsGrown self.now.problem.now self.now.bounds.now (T.context branch.old) }
         requires left { EndsLeft (T.context branch.old) }
         ensures { OnOk result ((before : Context) (left : EntryValue) → T.context branch.old ≡ add before left → T.context branch.new ≡ add before (beside left)) }
     {

@@ -1,5 +1,5 @@
 //! The visit of a node: what is done next there.
-ghost use Rattle.std.specs.Prelude.{◌≡◌, ◌<◌, ◌≤◌, [], ℕ, Bool, List, OnOk};
+ghost use Rattle.std.specs.Prelude.{◌≡◌, ◌<◌, ◌≤◌, [], ℕ, List, OnOk};
 ghost use Rattle.me_terms.specs.AnswerViews.{next_value};
 ghost use Rattle.me_terms.specs.Values.{EntryValue};
 ghost use Rattle.me_terms.specs.Validity.{IsLawful, IsValid};
@@ -8,7 +8,7 @@ ghost use Rattle.me_terms.specs.Next.{IsNext, Exhausted};
 ghost use Rattle.next_rule.specs.NextLaws.{IsAddedBy, MayBeAdded};
 ghost use Rattle.branch_core.specs.Hooks.{SameGifts};
 ghost use Rattle.branch_core.specs.Pieces.{Piece};
-ghost use Rattle.branch_walk.specs.Tallies.{IsTally, AddsAtMost, IsOpen};
+ghost use Rattle.branch_walk.specs.Tallies.{IsTally, AddsAtMost, TakesOwnLeaf};
 ghost use Rattle.branch_walk.specs.Walks.{Hears, IsVisited};
 
 use crate::job::Job;
@@ -31,8 +31,8 @@ impl<'a> Search<'a> {
     ) -> Visit
         requires valid { IsValid self.now.problem.now }
         requires bounds { IsLawful self.now.bounds.now }
-        requires grown { (positive : Bool) × IsGrown self.now.problem.now self.now.bounds.now positive (T.context branch.old) }
-        requires open { IsOpen tally.old }
+        requires grown { IsGrown self.now.problem.now self.now.bounds.now (T.context branch.old) }
+        requires open { TakesOwnLeaf tally.old }
         requires kept { (before : List Piece) × IsTally self.now.bounds.now.list tally.old before }
         ensures visited { (told sent : List ℕ) × Hears (record { given = H.given hook.old; seen = H.seen hook.old; posted = H.posted hook.old }) (record { given = H.given hook.new; seen = H.seen hook.new; posted = H.posted hook.new }) [] told sent × IsVisited self.now.problem.now self.now.bounds.now (T.context branch.old) (T.context branch.new) tally.old tally.new told sent result }
         ensures pushes { AddsAtMost 0 tally.old tally.new }
@@ -57,8 +57,8 @@ impl<'a> Search<'a> {
     ) -> Visit
         requires valid { IsValid self.now.problem.now }
         requires bounds { IsLawful self.now.bounds.now }
-        requires grown { (positive : Bool) × IsGrown self.now.problem.now self.now.bounds.now positive (T.context branch.old) }
-        requires open { IsOpen tally.old }
+        requires grown { IsGrown self.now.problem.now self.now.bounds.now (T.context branch.old) }
+        requires open { TakesOwnLeaf tally.old }
         requires kept { (before : List Piece) × IsTally self.now.bounds.now.list tally.old before }
         requires next { IsNext self.now.problem.now self.now.bounds.now (T.context branch.old) (next_value next) }
         requires added { (e : EntryValue) → IsAddedBy (next_value next) e → MayBeAdded self.now.bounds.now (T.context branch.old) e }
@@ -103,7 +103,7 @@ impl<'a> Search<'a> {
         tally: &mut Tally,
         hook: &mut H,
     ) -> Visit
-        requires open { IsOpen tally.old }
+        requires open { TakesOwnLeaf tally.old }
         requires next { IsNext self.now.problem.now self.now.bounds.now (T.context branch.now) Exhausted }
         ensures visited { (sent : List ℕ) × Hears (record { given = H.given hook.old; seen = H.seen hook.old; posted = H.posted hook.old }) (record { given = H.given hook.new; seen = H.seen hook.new; posted = H.posted hook.new }) [] [] sent × ((told : List ℕ) → IsVisited self.now.problem.now self.now.bounds.now (T.context branch.now) (T.context branch.now) tally.old tally.new told sent result) }
         ensures pushes { AddsAtMost 0 tally.old tally.new }

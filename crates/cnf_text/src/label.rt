@@ -2,12 +2,13 @@
 //!
 //! A label is printed so that it reads as itself: bare where that is possible, else in quotes.
 ghost use Rattle.std.specs.Prelude.{◌≡◌, ◌++◌, decimal, OnOk};
-ghost use Rattle.std.specs.List.{list_all};
-ghost use Rattle.cnf_text.specs.LabelText.{is_word_byte, is_lower_word, quoted, label_text};
+ghost use Rattle.tptp_tokens.specs.Quoted.{quoted};
+ghost use Rattle.cnf_text.specs.LabelText.{label_text};
 
 use itoa::Buffer;
 use me_terms::{Form, Label};
 use std::alloc::AllocError;
+use tptp_tokens::{is_escaped, is_lower_word};
 
 /// Puts the number at the end, in decimal.
 pub fn push_number(out: &mut Vec<u8>, n: u64) -> Result<(), AllocError>
@@ -17,37 +18,13 @@ pub fn push_number(out: &mut Vec<u8>, n: u64) -> Result<(), AllocError>
     out.extend_from_slice(buffer.format(n).as_bytes())
 }
 
-/// Whether the byte is a letter, a digit or `_`.
-fn is_word_byte(byte: u8) -> bool
-    ensures { result ≡ is_word_byte byte }
-{
-    byte.is_ascii_alphanumeric() || byte == b'_'
-}
-
-/// Whether each of the bytes is a letter, a digit or `_`.
-fn are_word_bytes(bytes: &[u8]) -> bool
-    ensures { result ≡ list_all is_word_byte bytes.now }
-{
-    bytes.iter().all(|byte| is_word_byte(*byte))
-}
-
-/// Whether the text is a lower letter and then any number of word bytes.
-fn is_lower_word(text: &[u8]) -> bool
-    ensures { result ≡ is_lower_word text.now }
-{
-    match text {
-        [first, others @ ..] => first.is_ascii_lowercase() && are_word_bytes(others),
-        [] => false,
-    }
-}
-
 /// Puts the text at the end, between two of the quotes.
 fn push_quoted(out: &mut Vec<u8>, quote: u8, text: &[u8]) -> Result<(), AllocError>
     ensures { OnOk result (out.new.items ≡ out.old.items ++ quoted quote text.now) }
 {
     out.push(quote)?;
     for byte in text {
-        if *byte == b'\\' || *byte == quote {
+        if is_escaped(*byte, quote) {
             out.push(b'\\')?;
         }
         out.push(*byte)?;

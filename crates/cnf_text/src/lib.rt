@@ -11,6 +11,3 @@ mod term;
 pub use clause::{push_clause, push_signed};
 pub use label::{push_label, push_number};
 pub use term::push_atom;
-
-#[cfg(test)]
-mod tests;

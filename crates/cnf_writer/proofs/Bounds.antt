@@ -18,7 +18,7 @@ use Rattle.tptp_grammar.specs.Limits.{with_variables}
 use Rattle.tptp_grammar.specs.Terminals.{LowerWord, OpenRound, CloseRound, Comma, Dot, Bar, Tilde, Distinct}
 use Rattle.tptp_grammar.specs.Terminals as terminal
 use Rattle.tptp_grammar.specs.Written.{Name, Bare, Quoted}
-use Rattle.tptp_grammar.specs.Printed.{Printed, plain, as_part, name_terminal, truth_terminal, label_terminal, term_then, arguments_then, others_then, has_none, atom_then, literal_then, barred_then, formula_then, printed}
+use Rattle.tptp_grammar.specs.Printed.{Printed, plain_token, as_part, name_terminal, truth_terminal, label_terminal, term_then, arguments_then, others_then, has_none, atom_then, literal_then, barred_then, formula_then, printed}
 use Rattle.tptp_grammar.specs.declared.part.Part.TheVariants.{Formula as FormulaPart, Role as RolePart, Negative as NegativePart, Positive as PositivePart, Atom as AtomPart, Argument as ArgumentPart, Label as LabelPart, OpenArguments, CloseArguments, End as EndPart}
 use Rattle.tptp_cnf.proofs.Numbering.{text_longer}
 use Rattle.cnf_writer.proofs.Spots.{spot, AllFine, fine}
@@ -54,8 +54,8 @@ few_places n h = grind (arith, nat_tests)
 
 -- ---- single tokens
 
-comma_fine : (c l d : ℕ) (vs : List (List ℕ)) (ps : List Printed) → length vs ≤ 1024 → AllFine (spot c l vs d) ps → AllFine (spot c l vs d) (plain Comma ∷ ps)
-comma_fine c l d vs ps v h = (fine (spot c l vs d) (plain Comma) (λ e. never e) (λ e. never e) refl v (λ e. never e) (λ e. never e), h)
+comma_fine : (c l d : ℕ) (vs : List (List ℕ)) (ps : List Printed) → length vs ≤ 1024 → AllFine (spot c l vs d) ps → AllFine (spot c l vs d) (plain_token Comma ∷ ps)
+comma_fine c l d vs ps v h = (fine (spot c l vs d) (plain_token Comma) (λ e. never e) (λ e. never e) refl v (λ e. never e) (λ e. never e), h)
 
 argument_name : (name : Name) (n c l d : ℕ) (vs : List (List ℕ)) (ps : List Printed) → n ≤ 64 → length vs ≤ 1024 → AllFine (spot c l vs d) ps → AllFine (spot c l vs d) (as_part (ArgumentPart n) (name_terminal name) ∷ ps)
 argument_name (Bare text) n c l d vs ps a v h = (fine (spot c l vs d) (as_part (ArgumentPart n) (name_terminal (Bare text))) (λ e. never e) (λ e. never e) (few_places n a) v (λ e. never e) (λ e. never e), h)
@@ -177,26 +177,26 @@ module _ (signature : SignatureValue) (lawful : LawfulSignature signature) (few 
       let parts = both_parts (is_known_atom signature x.atom) (all_known ls) k in
       let us : List ℕ = variables_of x.atom.args in
       let ws : List ℕ = clause_variables ls in (
-        fine (spot c l vs 1) (plain Bar) (λ e. never e) (λ e. never e) refl (few_known vs (us ++ ws) v) (λ e. never e) (λ e. never e),
+        fine (spot c l vs 1) (plain_token Bar) (λ e. never e) (λ e. never e) refl (few_known vs (us ++ ws) v) (λ e. never e) (λ e. never e),
         signed_fine x.positive x.atom c l 1 vs (barred_then (literal_trees signature ls) ps) parts.0 (omega (arith, m)) (omega (arith, b.0)) (few_front vs us ws v)
             (barred_fine ls c (suc l) (after vs us) ps parts.1 (omega (arith, m)) b.1 (few_back vs us ws v) h),
       )
 
-  end_fine : (c : ℕ) (ps : List Printed) → FineBehind c 0 ps → FineBehind c 1 (plain CloseRound ∷ as_part EndPart Dot ∷ ps)
+  end_fine : (c : ℕ) (ps : List Printed) → FineBehind c 0 ps → FineBehind c 1 (plain_token CloseRound ∷ as_part EndPart Dot ∷ ps)
   end_fine c ps h l vs v = (
-    fine (spot c l vs 1) (plain CloseRound) (λ e. never e) (λ e. never e) refl v (λ e. never e) (λ e. omega arith),
+    fine (spot c l vs 1) (plain_token CloseRound) (λ e. never e) (λ e. never e) refl v (λ e. never e) (λ e. omega arith),
     (fine (spot c l vs 0) (as_part EndPart Dot) (λ e. never e) (λ e. never e) refl v (λ e. never e) (λ e. never e), h l vs v),
   )
 
   frame_fine : (label : LabelValue) (c l : ℕ) (vs : List (List ℕ)) (body : List Printed) → c < 1048576 → length vs ≤ 1024 → AllFine (spot (suc c) 0 [] 1) body
-      → AllFine (spot c l vs 0) (as_part FormulaPart (LowerWord (codes "cnf")) ∷ plain OpenRound ∷ as_part LabelPart (label_terminal (label_as label.form label.text)) ∷ plain Comma ∷ as_part RolePart (LowerWord (codes "axiom")) ∷ plain Comma ∷ body)
+      → AllFine (spot c l vs 0) (as_part FormulaPart (LowerWord (codes "cnf")) ∷ plain_token OpenRound ∷ as_part LabelPart (label_terminal (label_as label.form label.text)) ∷ plain_token Comma ∷ as_part RolePart (LowerWord (codes "axiom")) ∷ plain_token Comma ∷ body)
   frame_fine label c l vs body k v h =
       let none : 0 ≤ 1024 = omega arith in (
         fine (spot c l vs 0) (as_part FormulaPart (LowerWord (codes "cnf"))) (λ e. k) (λ e. never e) refl v (λ e. never e) (λ e. never e),
         (
-          fine (spot (suc c) 0 [] 0) (plain OpenRound) (λ e. never e) (λ e. never e) refl none (λ e. omega arith) (λ e. never e),
-          label_fine label.form label.text (suc c) 0 1 [] (plain Comma ∷ as_part RolePart (LowerWord (codes "axiom")) ∷ plain Comma ∷ body) none
-              (comma_fine (suc c) 0 1 [] (as_part RolePart (LowerWord (codes "axiom")) ∷ plain Comma ∷ body) none (
+          fine (spot (suc c) 0 [] 0) (plain_token OpenRound) (λ e. never e) (λ e. never e) refl none (λ e. omega arith) (λ e. never e),
+          label_fine label.form label.text (suc c) 0 1 [] (plain_token Comma ∷ as_part RolePart (LowerWord (codes "axiom")) ∷ plain_token Comma ∷ body) none
+              (comma_fine (suc c) 0 1 [] (as_part RolePart (LowerWord (codes "axiom")) ∷ plain_token Comma ∷ body) none (
                 fine (spot (suc c) 0 [] 1) (as_part RolePart (LowerWord (codes "axiom"))) (λ e. never e) (λ e. never e) refl none (λ e. never e) (λ e. never e),
                 comma_fine (suc c) 0 1 [] body none h,
               )),
@@ -206,7 +206,7 @@ module _ (signature : SignatureValue) (lawful : LawfulSignature signature) (few 
   formula_fine : (label : LabelValue) (ls : List Literal) (c l : ℕ) (vs : List (List ℕ)) (ps : List Printed) → c < 1048576 → length vs ≤ 1024 → all_known ls ≡ true → length ls ≤ 4096 → Shallow ls
       → length (after [] (clause_variables ls)) ≤ 1024 → FineBehind (suc c) 0 ps → AllFine (spot c l vs 0) (formula_then (formula_tree signature label ls) ps)
   formula_fine label [] c l vs ps m v k n b w h =
-      frame_fine label c l vs ((record { terminal = truth_terminal false; part = PositivePart; ends_atom = true }) ∷ plain CloseRound ∷ as_part EndPart Dot ∷ ps) m v (
+      frame_fine label c l vs ((record { terminal = truth_terminal false; part = PositivePart; ends_atom = true }) ∷ plain_token CloseRound ∷ as_part EndPart Dot ∷ ps) m v (
         fine (spot (suc c) 0 [] 1) (record { terminal = truth_terminal false; part = PositivePart; ends_atom = true }) (λ e. never e) (λ e. omega arith) refl w (λ e. never e) (λ e. never e),
         end_fine (suc c) ps h 1 [] w,
       )
@@ -214,7 +214,7 @@ module _ (signature : SignatureValue) (lawful : LawfulSignature signature) (few 
       let parts = both_parts (is_known_atom signature x.atom) (all_known ls) k in
       let us : List ℕ = variables_of x.atom.args in
       let ws : List ℕ = clause_variables ls in
-      let close : List Printed = plain CloseRound ∷ as_part EndPart Dot ∷ ps in
+      let close : List Printed = plain_token CloseRound ∷ as_part EndPart Dot ∷ ps in
       let tail : List Printed = barred_then (literal_trees signature ls) close in
       frame_fine label c l vs (literal_then (literal_tree signature x) tail) m v
       (signed_fine x.positive x.atom (suc c) 0 1 [] tail parts.0 (omega arith) (omega (arith, b.0)) (few_front [] us ws w)

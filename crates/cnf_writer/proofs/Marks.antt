@@ -1,18 +1,17 @@
 -- Bytes that are read as given tokens of a file.
 use Rattle.std.proofs.Common.{◌≡◌, ◌≢◌, ◌≤◌, ◌-◌, ◌+◌, ℕ, Bool, true, false, List, [], ◌∷◌, ◌++◌, length, refl, sym, ap, subst, ◌∙◌, append_assoc, arith}
 use Rattle.std.proofs.lemmas.Bool.Decides.{nat_tests}
-use Rattle.std.specs.Prelude.{◌==◌, ◌&&◌, ◌||◌, eqb, not, codes, if◌then◌else◌}
-use Rattle.std.specs.List.{list_all, flat_map}
+use Rattle.std.specs.Prelude.{◌==◌, ◌&&◌, not, codes, if◌then◌else◌}
+use Rattle.std.specs.List.{list_all}
 use Rattle.me_terms.specs.Labels.{is_digit, is_printable}
-use Rattle.cnf_text.specs.LabelText as label
-use Rattle.tptp_tokens.specs.Bytes.{is_blank, is_lower, is_word_byte}
-use Rattle.tptp_tokens.specs.Founds.{IsClosed}
+use Rattle.tptp_tokens.specs.Bytes.{is_blank, is_lower_letter, is_word_byte}
+use Rattle.tptp_tokens.specs.Founds.{IsClosedQuote}
 use Rattle.tptp_tokens.specs.Fronts.{Stops, IsAfter}
-use Rattle.tptp_tokens.specs.Gaps.{Piece, Blank, Line, LastLine, Block, IsPiece, IsGap}
+use Rattle.tptp_tokens.specs.Gaps.{GapPiece, Blank, Line, LastLine, Block, IsPiece, IsGap}
 use Rattle.tptp_tokens.specs.Leads.{lead_of, sign_kind}
 use Rattle.tptp_tokens.specs.Numbers.{IsDigits, IsNumber, IsTail}
-use Rattle.tptp_tokens.specs.Quoted.{escaped, escaped_byte, escaped_if, unescaped}
-use Rattle.tptp_tokens.specs.Tokens.{TokenValue, PlacedToken, IsFirst, IsCutFrom, OpensComment, text_as}
+use Rattle.tptp_tokens.specs.Quoted.{escaped, quoted, unescaped}
+use Rattle.tptp_tokens.specs.Tokens.{TokenValue, PlacedToken, IsFirst, IsCutFrom, OpensComment, unquoted_text}
 use Rattle.tptp_tokens.specs.declared.token.TokenKind.{TokenKind}
 use Rattle.tptp_tokens.specs.declared.token.TokenKind.TheVariants as kinds
 use Rattle.tptp_tokens.proofs.Firsts.{lower_first, upper_first, one_dollar_first, single_first, distinct_first, number_first, alone_other, sign_first}
@@ -68,7 +67,7 @@ begins_token b = not (is_blank b) && (not (b == 37) && not (b == 47))
 blank_begins : (c : ℕ) → is_blank c ≡ true → begins_token c ≡ false
 blank_begins c h = ap (λ (v : Bool). not v && (not (c == 37) && not (c == 47))) h
 
-no_piece : (b : ℕ) (rest : List ℕ) → begins_token b ≡ true → (piece : Piece) (after : List ℕ) → IsPiece piece (b ∷ rest) after → ⊥
+no_piece : (b : ℕ) (rest : List ℕ) → begins_token b ≡ true → (piece : GapPiece) (after : List ℕ) → IsPiece piece (b ∷ rest) after → ⊥
 no_piece b rest h (Blank c) after k = differ begins_token b c (heads b c rest after k.0).0 h (blank_begins c k.1)
 no_piece b rest h (Line t) after k = differ begins_token b 37 (heads b 37 rest (t ++ 10 ∷ after) k.0).0 h refl
 no_piece b rest h (LastLine t) after k = differ begins_token b 37 (heads b 37 rest t k.0).0 h refl
@@ -77,7 +76,7 @@ no_piece b rest h (Block t) after k = differ begins_token b 47 (heads b 47 rest 
 no_gap : (b : ℕ) (rest : List ℕ) → begins_token b ≡ true → IsGap (b ∷ rest) (b ∷ rest)
 no_gap b rest h = ([], (refl, no_piece b rest h))
 
-empty_piece : (piece : Piece) (after : List ℕ) → IsPiece piece [] after → ⊥
+empty_piece : (piece : GapPiece) (after : List ℕ) → IsPiece piece [] after → ⊥
 empty_piece (Blank c) after k = let e : [] ≡ c ∷ after = k.0 in cc
 empty_piece (Line t) after k = let e : [] ≡ 37 ∷ (t ++ 10 ∷ after) = k.0 in cc
 empty_piece (LastLine t) after k = let e : [] ≡ 37 ∷ t = k.0 in cc
@@ -106,18 +105,18 @@ reads_token t p b after rest ps e h f r = (rest, record { token = t; middle = b 
 no_comment : (b : ℕ) (rest : List ℕ) → begins_token b ≡ true → OpensComment (b ∷ rest) → ⊥
 no_comment b rest h c = differ begins_token b 47 (heads b 47 rest (42 ∷ c.0) c.1).0 h refl
 
-pub reads_sign : (b : ℕ) (k : TokenKind) (p : Printed) (rest : List ℕ) (ps : List Printed) → lead_of b ≡ lead_of 40 → begins_token b ≡ true → k ≡ sign_kind b → (k ≡ kinds.Bad → ⊥) → terminal (record { kind = k; text = text_as k (b ∷ []) }) ≡ p.terminal → Reads rest ps → Reads (b ∷ rest) (p ∷ ps)
+pub reads_sign : (b : ℕ) (k : TokenKind) (p : Printed) (rest : List ℕ) (ps : List Printed) → lead_of b ≡ lead_of 40 → begins_token b ≡ true → k ≡ sign_kind b → (k ≡ kinds.Bad → ⊥) → terminal (record { kind = k; text = unquoted_text k (b ∷ []) }) ≡ p.terminal → Reads rest ps → Reads (b ∷ rest) (p ∷ ps)
 reads_sign b k p rest ps lead h e n same r =
-    reads_token (record { kind = k; text = text_as k (b ∷ []) }) p b rest rest ps same h
+    reads_token (record { kind = k; text = unquoted_text k (b ∷ []) }) p b rest rest ps same h
     (sign_first (b ∷ rest) b rest (b ∷ []) k refl (alone_other (b ∷ rest) b rest refl lead) (no_comment b rest h) e n refl) r
 
-lower_begins : (b : ℕ) → is_lower b ≡ true → begins_token b ≡ true
+lower_begins : (b : ℕ) → is_lower_letter b ≡ true → begins_token b ≡ true
 lower_begins b h = grind (arith, nat_tests)
 
 digit_begins : (b : ℕ) → is_digit b ≡ true → begins_token b ≡ true
 digit_begins b h = grind (arith, nat_tests)
 
-pub reads_lower : (b : ℕ) (w rest : List ℕ) (p : Printed) (ps : List Printed) → is_lower b ≡ true → list_all is_word_byte w ≡ true → Stops is_word_byte rest → LowerWord (b ∷ w) ≡ p.terminal → Reads rest ps → Reads (b ∷ (w ++ rest)) (p ∷ ps)
+pub reads_lower : (b : ℕ) (w rest : List ℕ) (p : Printed) (ps : List Printed) → is_lower_letter b ≡ true → list_all is_word_byte w ≡ true → Stops is_word_byte rest → LowerWord (b ∷ w) ≡ p.terminal → Reads rest ps → Reads (b ∷ (w ++ rest)) (p ∷ ps)
 reads_lower b w rest p ps h k s e r =
     reads_token (record { kind = kinds.LowerWord; text = b ∷ w }) p b (w ++ rest) rest ps e (lower_begins b h)
     (lower_first (b ∷ (w ++ rest)) b (w ++ rest) (b ∷ w) rest refl (lower_lead b h) (w, record { parts = refl; each = k; stops = s }) refl) r
@@ -137,36 +136,23 @@ reads_false rest p ps s e r =
 
 -- ---- quotes
 
-escaped_by : (u v : Bool) (b : ℕ) → (if u || v then 92 ∷ b ∷ [] else b ∷ []) ≡ escaped_if (v || u) b
-escaped_by true true b = refl
-escaped_by true false b = refl
-escaped_by false true b = refl
-escaped_by false false b = refl
+quoted_is : (q : ℕ) (text rest : List ℕ) → quoted q text ++ rest ≡ q ∷ (escaped q text ++ q ∷ rest)
+quoted_is q text rest = ap (λ (x : List ℕ). q ∷ x) (append_assoc (escaped q text) (q ∷ []) rest)
 
-pub escaped_same : (q : ℕ) (text : List ℕ) → flat_map (label.escaped q) text ≡ escaped q text
-escaped_same q [] = refl
-escaped_same q (b ∷ text) =
-    ap (λ (x : List ℕ). x ++ flat_map (label.escaped q) text) (escaped_by (eqb b 92) (eqb b q) b)
-    ∙ ap (λ (x : List ℕ). escaped_byte q b ++ x) (escaped_same q text)
-
-quoted_is : (q : ℕ) (text rest : List ℕ) → label.quoted q text ++ rest ≡ q ∷ (escaped q text ++ q ∷ rest)
-quoted_is q text rest =
-    ap (λ (x : List ℕ). q ∷ x) (append_assoc (flat_map (label.escaped q) text) (q ∷ []) rest ∙ ap (λ (x : List ℕ). x ++ q ∷ rest) (escaped_same q text))
-
-closed : (q : ℕ) (text rest : List ℕ) → list_all is_printable text ≡ true → IsClosed q (escaped q text ++ q ∷ rest) (escaped q text) rest
+closed : (q : ℕ) (text rest : List ℕ) → list_all is_printable text ≡ true → IsClosedQuote q (escaped q text) (escaped q text ++ q ∷ rest) rest
 closed q text rest h = record { text = text; each = h; is = refl; parts = refl }
 
 some_escaped : (q : ℕ) (text : List ℕ) → text ≢ [] → escaped q text ≢ []
 some_escaped q text n e = n (sym (unescaped-escaped q text) ∙ ap unescaped e)
 
-pub reads_quoted : (text rest : List ℕ) (p : Printed) (ps : List Printed) → text ≢ [] → list_all is_printable text ≡ true → SingleQuoted text ≡ p.terminal → Reads rest ps → Reads (label.quoted 39 text ++ rest) (p ∷ ps)
+pub reads_quoted : (text rest : List ℕ) (p : Printed) (ps : List Printed) → text ≢ [] → list_all is_printable text ≡ true → SingleQuoted text ≡ p.terminal → Reads rest ps → Reads (quoted 39 text ++ rest) (p ∷ ps)
 reads_quoted text rest p ps n h e r =
     subst (λ (x : List ℕ). Reads x (p ∷ ps)) (sym (quoted_is 39 text rest))
     (reads_token (record { kind = kinds.SingleQuoted; text = text }) p 39 (escaped 39 text ++ 39 ∷ rest) rest ps e refl
     (subst (λ (x : List ℕ). IsFirst (record { kind = kinds.SingleQuoted; text = x }) (39 ∷ (escaped 39 text ++ 39 ∷ rest)) rest) (unescaped-escaped 39 text)
     (single_first (39 ∷ (escaped 39 text ++ 39 ∷ rest)) 39 (escaped 39 text ++ 39 ∷ rest) (escaped 39 text) rest refl refl (closed 39 text rest h) (some_escaped 39 text n))) r)
 
-pub reads_distinct : (text rest : List ℕ) (p : Printed) (ps : List Printed) → list_all is_printable text ≡ true → Distinct text ≡ p.terminal → Reads rest ps → Reads (label.quoted 34 text ++ rest) (p ∷ ps)
+pub reads_distinct : (text rest : List ℕ) (p : Printed) (ps : List Printed) → list_all is_printable text ≡ true → Distinct text ≡ p.terminal → Reads rest ps → Reads (quoted 34 text ++ rest) (p ∷ ps)
 reads_distinct text rest p ps h e r =
     subst (λ (x : List ℕ). Reads x (p ∷ ps)) (sym (quoted_is 34 text rest))
     (reads_token (record { kind = kinds.Distinct; text = text }) p 34 (escaped 34 text ++ 34 ∷ rest) rest ps e refl

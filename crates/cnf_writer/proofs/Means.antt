@@ -15,11 +15,11 @@ use Rattle.me_terms.specs.Variables.{is_numbered_from, first_ones}
 use Rattle.me_terms.specs.declared.atom.Literal.{Literal}
 use Rattle.me_terms.specs.declared.symbol.Form.{Form}
 use Rattle.me_terms.specs.declared.symbol.Form.TheVariants as form
-use Rattle.cnf_text.specs.LabelText as cnf
+use Rattle.tptp_tokens.specs.Bytes.{is_lower_word}
 use Rattle.tptp_grammar.specs.Limits.{with_variables}
 use Rattle.tptp_grammar.specs.Written.{name_text, WrittenTerms, WrittenFormula}
 use Rattle.tptp_cnf.specs.Meaning as meaning
-use Rattle.tptp_cnf.specs.Meaning.{word, distinct, symbol, label_of, name_symbol, is_positive, is_true_atom, is_true, literals_of, is_left_out, term_functions, terms_functions, term_variables, terms_variables, atom_predicates, atom_functions, atom_variables, literals_predicates, literals_functions, literals_variables, file_predicates, file_functions, place_of, term_of, terms_of, signed_literal, clause_literals, clause_of, clauses_of, with_symbols, with_constant, is_constant, signature_of, problem_of}
+use Rattle.tptp_cnf.specs.Meaning.{word, distinct, symbol, label_of, name_symbol, is_positive, is_true_atom, is_true, literals_of, is_left_out, term_functions, terms_functions, variables_in_term, terms_variables, atom_predicates, atom_functions, atom_variables, literals_predicates, literals_functions, literals_variables, file_predicates, file_functions, text_place, term_of, terms_of, signed_literal, clause_literals, clause_of, clauses_of, with_symbols, with_constant, is_constant, signature_of, problem_of}
 use Rattle.tptp_cnf.specs.Plain.{term_function_numbers, function_numbers, symbols_at, clauses_functions, clauses_predicates, HasNumbersFrom}
 use Rattle.cnf_writer.proofs.Places.{Different, number_at, different_symbols, different_constant, length-upto, Small, place_is, with_first, all_so, Numbered, numbered}
 use Rattle.cnf_writer.proofs.Trees.{name_if, name_of, label_as, variable_text, applied, term_tree, terms_tree, predicate, atom_tree, sign_of, literal_trees, formula_tree, clauses_tree, problem_tree, Entry, a_word, an_object, entry, WordEntry, word_entry, nil_of, LawfulSignature, all_front, all_back, names}
@@ -27,7 +27,7 @@ use Rattle.cnf_writer.proofs.Trees.{name_if, name_of, label_as, variable_text, a
 -- ---- names and labels
 
 name_same : (text : List ℕ) → name_text (name_of text) ≡ text
-name_same text = by (cnf.is_lower_word text)
+name_same text = by (is_lower_word text)
   where
     by : (b : Bool) → name_text (name_if b text) ≡ text
     by true = refl
@@ -42,7 +42,7 @@ sign_same : (b : Bool) → is_positive (sign_of b) ≡ b
 sign_same true = refl
 sign_same false = refl
 
-counts : (functions : List SymbolValue) (ts : Arguments) → meaning.count (terms_tree functions ts) ≡ variables.count ts
+counts : (functions : List SymbolValue) (ts : Arguments) → meaning.terms_count (terms_tree functions ts) ≡ variables.count ts
 counts functions Nil = refl
 counts functions (Cons t ts) = omega (arith, counts functions ts)
 
@@ -51,7 +51,7 @@ module _ (signature : SignatureValue) (lawful : LawfulSignature signature) where
   fs = signature.functions
 
   name_is : (text : List ℕ) (ts : Arguments) → name_symbol (name_of text) (terms_tree fs ts) ≡ symbol (word text) (variables.count ts)
-  name_is text ts = ap (λ (x : List ℕ). symbol (word x) (meaning.count (terms_tree fs ts))) (name_same text) ∙ ap (λ (n : ℕ). symbol (word text) n) (counts fs ts)
+  name_is text ts = ap (λ (x : List ℕ). symbol (word x) (meaning.terms_count (terms_tree fs ts))) (name_same text) ∙ ap (λ (n : ℕ). symbol (word text) n) (counts fs ts)
 
   -- ---- the symbols and variables, as often as they stand
 
@@ -79,13 +79,13 @@ module _ (signature : SignatureValue) (lawful : LawfulSignature signature) where
         ∙ ap (λ (x : List SymbolValue). symbols_at fs (term_function_numbers t) ++ x) (functions_of_terms ts parts.1)
         ∙ sym (flat_map-append (λ n. option_to_list (slice_get fs n)) (term_function_numbers t) (function_numbers ts))
 
-  applied_variables : (o : Option SymbolValue) (ts : Arguments) → Entry o (variables.count ts) → terms_variables (terms_tree fs ts) ≡ names (variables.variables_of ts) → term_variables (applied o (terms_tree fs ts)) ≡ names (variables.variables_of ts)
-  applied_variables o ts (a_word text e r) h = subst (λ (x : Option SymbolValue). term_variables (applied x (terms_tree fs ts)) ≡ names (variables.variables_of ts)) (sym e) h
+  applied_variables : (o : Option SymbolValue) (ts : Arguments) → Entry o (variables.count ts) → terms_variables (terms_tree fs ts) ≡ names (variables.variables_of ts) → variables_in_term (applied o (terms_tree fs ts)) ≡ names (variables.variables_of ts)
+  applied_variables o ts (a_word text e r) h = subst (λ (x : Option SymbolValue). variables_in_term (applied x (terms_tree fs ts)) ≡ names (variables.variables_of ts)) (sym e) h
   applied_variables o ts (an_object text e r z) h =
-      subst (λ (x : Option SymbolValue). term_variables (applied x (terms_tree fs ts)) ≡ names (variables.variables_of ts)) (sym e) (ap (λ (x : Arguments). names (variables.variables_of x)) (sym (nil_of ts z)))
+      subst (λ (x : Option SymbolValue). variables_in_term (applied x (terms_tree fs ts)) ≡ names (variables.variables_of ts)) (sym e) (ap (λ (x : Arguments). names (variables.variables_of x)) (sym (nil_of ts z)))
 
   mutual
-    variables_of_term : (t : TermValue) → is_known signature t ≡ true → term_variables (term_tree fs t) ≡ names (variables.term_variables t)
+    variables_of_term : (t : TermValue) → is_known signature t ≡ true → variables_in_term (term_tree fs t) ≡ names (variables.term_variables t)
     variables_of_term (Var x) k = refl
     variables_of_term (App f ts) k =
         let parts = both_parts (takes (slice_get fs f) (variables.count ts)) (are_known signature ts) k in
@@ -103,7 +103,7 @@ module _ (signature : SignatureValue) (lawful : LawfulSignature signature) where
 
   module _ (different : Different fs) (vs : List (List ℕ)) where
     abbrev Placed : ℕ → Type 0
-    Placed x = place_of (variable_text x) vs ≡ x
+    Placed x = text_place (variable_text x) vs ≡ x
 
     applied_same : (f : ℕ) (o : Option SymbolValue) (ts : Arguments) → slice_get fs f ≡ o → Entry o (variables.count ts) → terms_of fs vs (terms_tree fs ts) ≡ ts → term_of fs vs (applied o (terms_tree fs ts)) ≡ App f ts
     applied_same f o ts at (a_word text e r) h =
@@ -188,7 +188,7 @@ module _ (signature : SignatureValue) (lawful : LawfulSignature signature) where
 
   module _ (functions : Different fs) (predicates : Different signature.predicates) (vs : List (List ℕ)) where
     abbrev PlacedIn : ℕ → Type 0
-    PlacedIn x = place_of (variable_text x) vs ≡ x
+    PlacedIn x = text_place (variable_text x) vs ≡ x
 
     literal : Bool → ℕ → Arguments → Literal
     literal b n ts = record { positive = b; atom = record { pred = n; args = ts } }
@@ -272,7 +272,7 @@ module _ (signature : SignatureValue) (lawful : LawfulSignature signature) where
   pub record Known (c : ClauseValue) : Type 0 where
     pub texts : with_variables [] (names (clause_variables c.literals)) ≡ names (first_ones [] (clause_variables c.literals))
     pub small : AllByRecursion Small (clause_variables c.literals)
-    pub placed : AllByRecursion (λ x. place_of (variable_text x) (names (first_ones [] (clause_variables c.literals))) ≡ x) (clause_variables c.literals)
+    pub placed : AllByRecursion (λ x. text_place (variable_text x) (names (first_ones [] (clause_variables c.literals))) ≡ x) (clause_variables c.literals)
 
   pub known_variables : (c : ClauseValue) → Meant c → Known c
   known_variables c h =
@@ -283,8 +283,8 @@ module _ (signature : SignatureValue) (lawful : LawfulSignature signature) where
       record {
         texts = with_first xs [] small tt;
         small = small;
-        placed = all_so (λ x. x < n.count) (λ x. place_of (variable_text x) (names (first_ones [] xs)) ≡ x) xs
-            (λ x lt. ap (λ (ys : List ℕ). place_of (variable_text x) (names ys)) n.ones ∙ place_is x n.count lt m) n.below;
+        placed = all_so (λ x. x < n.count) (λ x. text_place (variable_text x) (names (first_ones [] xs)) ≡ x) xs
+            (λ x lt. ap (λ (ys : List ℕ). text_place (variable_text x) (names ys)) n.ones ∙ place_is x n.count lt m) n.below;
       }
 
   module _ (functions : Different fs) (predicates : Different signature.predicates) where
@@ -298,11 +298,11 @@ module _ (signature : SignatureValue) (lawful : LawfulSignature signature) where
         let vs : List (List ℕ) = names (first_ones [] xs) in
         let tree : WrittenFormula = formula_tree signature c.label c.literals in
         let known = known_variables c h in
-        let own : meaning.variables_of tree ≡ vs = ap (λ (x : List (List ℕ)). with_variables [] x) (formula_variables c.label c.literals h.known) ∙ known.texts in
-        let literals : clause_literals signature (meaning.variables_of tree) (literals_of tree) ≡ c.literals =
+        let own : meaning.variables_in_formula tree ≡ vs = ap (λ (x : List (List ℕ)). with_variables [] x) (formula_variables c.label c.literals h.known) ∙ known.texts in
+        let literals : clause_literals signature (meaning.variables_in_formula tree) (literals_of tree) ≡ c.literals =
         ap (λ (x : List (List ℕ)). clause_literals signature x (literals_of tree)) own ∙ formula_literals vs c.label c.literals ∙ literals_same functions predicates vs c.literals h.known known.placed in
-        ap (λ (m : ℕ). clause m (label_of tree.label) (clause_literals signature (meaning.variables_of tree) (literals_of tree))) (sym e)
-        ∙ ap (λ (l : LabelValue). clause c.number l (clause_literals signature (meaning.variables_of tree) (literals_of tree))) (formula_label c.label c.literals h.label)
+        ap (λ (m : ℕ). clause m (label_of tree.label) (clause_literals signature (meaning.variables_in_formula tree) (literals_of tree))) (sym e)
+        ∙ ap (λ (l : LabelValue). clause c.number l (clause_literals signature (meaning.variables_in_formula tree) (literals_of tree))) (formula_label c.label c.literals h.label)
         ∙ ap (λ (ls : List Literal). clause c.number c.label ls) literals
 
     clauses_same : (cs : List ClauseValue) (n : ℕ) → AllByRecursion Meant cs → HasNumbersFrom n cs → clauses_of signature n (clauses_tree signature cs) ≡ cs

@@ -16,7 +16,7 @@ use Rattle.me_terms.specs.TermEqualityLaws.{both_parts}
 use Rattle.me_terms.specs.Values.{SymbolValue}
 use Rattle.me_terms.specs.Variables.{is_numbered_from, first_ones}
 use Rattle.tptp_grammar.specs.Limits.{with_variables}
-use Rattle.tptp_cnf.specs.Meaning.{is_constant, c0_symbol, with_constant, with_symbols, place_of}
+use Rattle.tptp_cnf.specs.Meaning.{is_constant, c0_symbol, with_constant, with_symbols, text_place}
 use Rattle.tptp_cnf.proofs.Numbering.{position_stays, text_itself}
 use Rattle.cnf_writer.proofs.Trees.{variable_text, names}
 
@@ -184,10 +184,10 @@ any_name x [] h k = refl
 any_name x (y ∷ xs) h k =
     ap (λ (b : Bool). b || list_any (bytes_eq (variable_text x)) (names xs)) (same_text x y h k.0) ∙ ap (λ (b : Bool). eqb x y || b) (any_name x xs h k.1)
 
-position_name : (x : ℕ) (xs : List ℕ) → Small x → AllByRecursion Small xs → place_of (variable_text x) (names xs) ≡ position_or_len (eqb x) xs
+position_name : (x : ℕ) (xs : List ℕ) → Small x → AllByRecursion Small xs → text_place (variable_text x) (names xs) ≡ position_or_len (eqb x) xs
 position_name x [] h k = refl
 position_name x (y ∷ xs) h k =
-    ap (λ (b : Bool). cond (not b) (1 + place_of (variable_text x) (names xs)) 0) (same_text x y h k.0)
+    ap (λ (b : Bool). cond (not b) (1 + text_place (variable_text x) (names xs)) 0) (same_text x y h k.0)
     ∙ ap (λ (n : ℕ). cond (not (eqb x y)) (1 + n) 0) (position_name x xs h k.1)
 
 pub all_push : (P : ℕ → Type 0) (xs : List ℕ) (y : ℕ) → AllByRecursion P xs → P y → AllByRecursion P (xs ++ y ∷ [])
@@ -202,7 +202,7 @@ small_upto : (n : ℕ) → n ≤ 1024 → AllByRecursion Small (upto n)
 small_upto zero h = tt
 small_upto (suc n) h = all_push Small (upto n) n (small_upto n (omega arith)) (omega arith)
 
-pub place_is : (x m : ℕ) → x < m → m ≤ 1024 → place_of (variable_text x) (names (upto m)) ≡ x
+pub place_is : (x m : ℕ) → x < m → m ≤ 1024 → text_place (variable_text x) (names (upto m)) ≡ x
 place_is x m h k = position_name x (upto m) (omega arith) (small_upto m k) ∙ position_upto x m h
 
 pub with_first : (xs seen : List ℕ) → AllByRecursion Small xs → AllByRecursion Small seen → with_variables (names seen) (names xs) ≡ names (first_ones seen xs)

@@ -17,14 +17,14 @@ use Rattle.me_terms.specs.declared.atom.Literal.{Literal}
 use Rattle.me_terms.specs.declared.symbol.Form.{Form}
 use Rattle.me_terms.specs.declared.symbol.Form.TheVariants as form
 use Rattle.cnf_text.specs.ClauseText.{symbol_text, term_text, arguments_text, others_text, atom_text, literal_text, barred_text, clause_text}
-use Rattle.cnf_text.specs.LabelText as label
 use Rattle.cnf_text.specs.LabelText.{form_text, label_text}
-use Rattle.tptp_tokens.specs.Bytes.{is_word_byte}
+use Rattle.tptp_tokens.specs.Bytes.{is_lower_letter, is_word_byte, is_lower_word}
+use Rattle.tptp_tokens.specs.Quoted.{quoted}
 use Rattle.tptp_tokens.specs.Fronts.{Stops}
 use Rattle.tptp_tokens.specs.declared.token.TokenKind.TheVariants as kinds
-use Rattle.tptp_tokens.proofs.Runs.{all_first, all_more}
+use Rattle.tptp_tokens.proofs.Runs.{all_more}
 use Rattle.tptp_grammar.specs.Terminals.{LowerWord, OpenRound, CloseRound, Comma, Dot, Bar, Tilde}
-use Rattle.tptp_grammar.specs.Printed.{Printed, plain, as_part, name_terminal, truth_terminal, label_terminal, term_then, arguments_then, others_then, has_none, atom_then, literal_then, barred_then, formula_then, printed}
+use Rattle.tptp_grammar.specs.Printed.{Printed, plain_token, as_part, name_terminal, truth_terminal, label_terminal, term_then, arguments_then, others_then, has_none, atom_then, literal_then, barred_then, formula_then, printed}
 use Rattle.tptp_grammar.specs.declared.part.Part.{Part}
 use Rattle.tptp_grammar.specs.declared.part.Part.TheVariants.{Formula as FormulaPart, Role as RolePart, Negative as NegativePart, Positive as PositivePart, Atom as AtomPart, Argument as ArgumentPart, Label as LabelPart, OpenArguments, End as EndPart}
 use Rattle.cnf_writer.specs.ProblemText.{clause_lines}
@@ -33,13 +33,6 @@ use Rattle.cnf_writer.proofs.Places.{Small}
 use Rattle.cnf_writer.proofs.Trees.{name_if, name_of, label_as, applied, term_tree, terms_tree, predicate, atom_tree, literal_tree, literal_trees, formula_tree, clauses_tree, Entry, a_word, an_object, entry, WordEntry, word_entry, nil_of, LawfulSignature, all_front, all_back}
 
 -- ---- names, labels and variables
-
-same_byte : (b : ℕ) → label.is_word_byte b ≡ true → is_word_byte b ≡ true
-same_byte b h = grind (arith, nat_tests)
-
-word_bytes : (w : List ℕ) → list_all label.is_word_byte w ≡ true → list_all is_word_byte w ≡ true
-word_bytes [] h = refl
-word_bytes (b ∷ w) h = let f = all_first label.is_word_byte b w h in all_more is_word_byte b w (same_byte b f.0) (word_bytes w f.1)
 
 word_digit : (c : ℕ) → 48 ≤ c → c ≤ 57 → is_word_byte c ≡ true
 word_digit c h k = grind (arith, nat_tests)
@@ -51,16 +44,16 @@ digits_word (c ∷ ds) h = let r = digit_from_value c h.0 in all_more is_word_by
 decimal_word : (n : ℕ) → n < 2 ^ 64 → list_all is_word_byte (decimal n) ≡ true
 decimal_word n h = digits_word (decimal n) (decimal_is_IsNumeral n h).0.1
 
-bare_reads : (text rest : List ℕ) (p : Printed) (ps : List Printed) → label.is_lower_word text ≡ true → Stops is_word_byte rest → LowerWord text ≡ p.terminal → Reads rest ps → Reads (text ++ rest) (p ∷ ps)
+bare_reads : (text rest : List ℕ) (p : Printed) (ps : List Printed) → is_lower_word text ≡ true → Stops is_word_byte rest → LowerWord text ≡ p.terminal → Reads rest ps → Reads (text ++ rest) (p ∷ ps)
 bare_reads [] rest p ps h s e r = absurd cc
 bare_reads (b ∷ w) rest p ps h s e r =
-    let k = both_parts (label.is_lower_letter b) (list_all label.is_word_byte w) h in
-    reads_lower b w rest p ps k.0 (word_bytes w k.1) s e r
+    let k = both_parts (is_lower_letter b) (list_all is_word_byte w) h in
+    reads_lower b w rest p ps k.0 k.1 s e r
 
 name_reads : (text rest : List ℕ) (p : Printed) (ps : List Printed) → IsReadableAs form.Word text → Stops is_word_byte rest → name_terminal (name_of text) ≡ p.terminal → Reads rest ps → Reads (form_text form.Word text ++ rest) (p ∷ ps)
-name_reads text rest p ps h s e r = by (label.is_lower_word text) refl e
+name_reads text rest p ps h s e r = by (is_lower_word text) refl e
   where
-    by : (b : Bool) → label.is_lower_word text ≡ b → name_terminal (name_if b text) ≡ p.terminal → Reads ((if b then text else label.quoted 39 text) ++ rest) (p ∷ ps)
+    by : (b : Bool) → is_lower_word text ≡ b → name_terminal (name_if b text) ≡ p.terminal → Reads ((if b then text else quoted 39 text) ++ rest) (p ∷ ps)
     by true f e = bare_reads text rest p ps f s e r
     by false f e = reads_quoted text rest p ps h.0 h.1 e r
 
@@ -71,8 +64,8 @@ label_reads form.Number text more ps h n r = reads_digits text more (as_part Lab
 
 -- ---- signs
 
-comma_reads : (rest : List ℕ) (ps : List Printed) → Reads rest ps → Reads (44 ∷ rest) (plain Comma ∷ ps)
-comma_reads rest ps r = reads_sign 44 kinds.Comma (plain Comma) rest ps refl refl refl (λ e. cc) refl r
+comma_reads : (rest : List ℕ) (ps : List Printed) → Reads rest ps → Reads (44 ∷ rest) (plain_token Comma ∷ ps)
+comma_reads rest ps r = reads_sign 44 kinds.Comma (plain_token Comma) rest ps refl refl refl (λ e. cc) refl r
 
 open_reads : (part : Part) (rest : List ℕ) (ps : List Printed) → Reads rest ps → Reads (40 ∷ rest) (as_part part OpenRound ∷ ps)
 open_reads part rest ps r = reads_sign 40 kinds.OpenRound (as_part part OpenRound) rest ps refl refl refl (λ e. cc) refl r
@@ -82,19 +75,19 @@ close_reads p rest ps e r = reads_sign 41 kinds.CloseRound p rest ps refl refl r
 
 -- ---- the frame of a line
 
-head_reads : (rest : List ℕ) (ps : List Printed) → Reads rest ps → Reads (codes "cnf(" ++ rest) (as_part FormulaPart (LowerWord (codes "cnf")) ∷ plain OpenRound ∷ ps)
+head_reads : (rest : List ℕ) (ps : List Printed) → Reads rest ps → Reads (codes "cnf(" ++ rest) (as_part FormulaPart (LowerWord (codes "cnf")) ∷ plain_token OpenRound ∷ ps)
 head_reads rest ps r =
-    reads_lower 99 (codes "nf") (40 ∷ rest) (as_part FormulaPart (LowerWord (codes "cnf"))) (plain OpenRound ∷ ps) refl refl refl refl
-    (reads_sign 40 kinds.OpenRound (plain OpenRound) rest ps refl refl refl (λ e. cc) refl r)
+    reads_lower 99 (codes "nf") (40 ∷ rest) (as_part FormulaPart (LowerWord (codes "cnf"))) (plain_token OpenRound ∷ ps) refl refl refl refl
+    (reads_sign 40 kinds.OpenRound (plain_token OpenRound) rest ps refl refl refl (λ e. cc) refl r)
 
-role_reads : (rest : List ℕ) (ps : List Printed) → Reads rest ps → Reads (codes ",axiom," ++ rest) (plain Comma ∷ as_part RolePart (LowerWord (codes "axiom")) ∷ plain Comma ∷ ps)
+role_reads : (rest : List ℕ) (ps : List Printed) → Reads rest ps → Reads (codes ",axiom," ++ rest) (plain_token Comma ∷ as_part RolePart (LowerWord (codes "axiom")) ∷ plain_token Comma ∷ ps)
 role_reads rest ps r =
-    comma_reads (codes "axiom," ++ rest) (as_part RolePart (LowerWord (codes "axiom")) ∷ plain Comma ∷ ps)
-    (reads_lower 97 (codes "xiom") (44 ∷ rest) (as_part RolePart (LowerWord (codes "axiom"))) (plain Comma ∷ ps) refl refl refl refl (comma_reads rest ps r))
+    comma_reads (codes "axiom," ++ rest) (as_part RolePart (LowerWord (codes "axiom")) ∷ plain_token Comma ∷ ps)
+    (reads_lower 97 (codes "xiom") (44 ∷ rest) (as_part RolePart (LowerWord (codes "axiom"))) (plain_token Comma ∷ ps) refl refl refl refl (comma_reads rest ps r))
 
-end_reads : (rest : List ℕ) (ps : List Printed) → Reads rest ps → Reads (codes ").\n" ++ rest) (plain CloseRound ∷ as_part EndPart Dot ∷ ps)
+end_reads : (rest : List ℕ) (ps : List Printed) → Reads rest ps → Reads (codes ").\n" ++ rest) (plain_token CloseRound ∷ as_part EndPart Dot ∷ ps)
 end_reads rest ps r =
-    close_reads (plain CloseRound) (46 ∷ 10 ∷ rest) (as_part EndPart Dot ∷ ps) refl
+    close_reads (plain_token CloseRound) (46 ∷ 10 ∷ rest) (as_part EndPart Dot ∷ ps) refl
     (reads_sign 46 kinds.Dot (as_part EndPart Dot) (10 ∷ rest) ps refl refl refl (λ e. cc) refl (reads_blank 10 rest ps refl r))
 
 abbrev line_as : LabelValue → List ℕ → List ℕ
@@ -102,13 +95,13 @@ line_as l text = codes "cnf(" ++ label_text l ++ codes ",axiom," ++ text ++ code
 
 abbrev frame : LabelValue → List Printed → List Printed
 frame l body =
-    as_part FormulaPart (LowerWord (codes "cnf")) ∷ plain OpenRound ∷ as_part LabelPart (label_terminal (label_as l.form l.text))
-    ∷ plain Comma ∷ as_part RolePart (LowerWord (codes "axiom")) ∷ plain Comma ∷ body
+    as_part FormulaPart (LowerWord (codes "cnf")) ∷ plain_token OpenRound ∷ as_part LabelPart (label_terminal (label_as l.form l.text))
+    ∷ plain_token Comma ∷ as_part RolePart (LowerWord (codes "axiom")) ∷ plain_token Comma ∷ body
 
 framed_reads : (l : LabelValue) (text rest : List ℕ) (body : List Printed) → IsClauseLabel l → Reads (text ++ (codes ").\n" ++ rest)) body → Reads (line_as l text ++ rest) (frame l body)
 framed_reads l text rest body h r =
     let end : List ℕ = codes ").\n" in
-    let tail : List Printed = plain Comma ∷ as_part RolePart (LowerWord (codes "axiom")) ∷ plain Comma ∷ body in
+    let tail : List Printed = plain_token Comma ∷ as_part RolePart (LowerWord (codes "axiom")) ∷ plain_token Comma ∷ body in
     let whole : List Printed = as_part LabelPart (label_terminal (label_as l.form l.text)) ∷ tail in
     head_reads (((label_text l ++ codes ",axiom,") ++ text ++ end) ++ rest) whole
     (reads_apart ((label_text l ++ codes ",axiom,") ++ text) end rest whole
@@ -210,8 +203,8 @@ module _ (signature : SignatureValue) (lawful : LawfulSignature signature) where
       let b = both_parts (is_known_atom signature l.atom) (all_known ls) k in
       let barred : List ℕ = barred_text signature ls in
       let tail : List Printed = barred_then (literal_trees signature ls) ps in
-      reads_blank 32 (124 ∷ 32 ∷ ((literal_text signature l ++ barred) ++ rest)) (plain Bar ∷ literal_then (literal_tree signature l) tail) refl
-      (reads_sign 124 kinds.Bar (plain Bar) (32 ∷ ((literal_text signature l ++ barred) ++ rest)) (literal_then (literal_tree signature l) tail) refl refl refl (λ e. cc) refl
+      reads_blank 32 (124 ∷ 32 ∷ ((literal_text signature l ++ barred) ++ rest)) (plain_token Bar ∷ literal_then (literal_tree signature l) tail) refl
+      (reads_sign 124 kinds.Bar (plain_token Bar) (32 ∷ ((literal_text signature l ++ barred) ++ rest)) (literal_then (literal_tree signature l) tail) refl refl refl (λ e. cc) refl
       (reads_blank 32 ((literal_text signature l ++ barred) ++ rest) (literal_then (literal_tree signature l) tail) refl
       (reads_apart (literal_text signature l) barred rest (literal_then (literal_tree signature l) tail)
       (signed_reads l.positive l.atom (barred ++ rest) tail (all_front Small (variables_of l.atom.args) (clause_variables ls) v) b.0 (barred_stop ls rest s)
@@ -220,11 +213,11 @@ module _ (signature : SignatureValue) (lawful : LawfulSignature signature) where
   formula_reads : (l : LabelValue) (ls : List Literal) (rest : List ℕ) (ps : List Printed) → IsClauseLabel l → AllByRecursion Small (clause_variables ls) → all_known ls ≡ true → Reads rest ps
       → Reads (line_as l (clause_text signature ls) ++ rest) (formula_then (formula_tree signature l ls) ps)
   formula_reads l [] rest ps h v k r =
-      framed_reads l (codes "$false") rest ((record { terminal = truth_terminal false; part = PositivePart; ends_atom = true }) ∷ plain CloseRound ∷ as_part EndPart Dot ∷ ps) h
-      (reads_false (codes ").\n" ++ rest) (record { terminal = truth_terminal false; part = PositivePart; ends_atom = true }) (plain CloseRound ∷ as_part EndPart Dot ∷ ps) refl refl (end_reads rest ps r))
+      framed_reads l (codes "$false") rest ((record { terminal = truth_terminal false; part = PositivePart; ends_atom = true }) ∷ plain_token CloseRound ∷ as_part EndPart Dot ∷ ps) h
+      (reads_false (codes ").\n" ++ rest) (record { terminal = truth_terminal false; part = PositivePart; ends_atom = true }) (plain_token CloseRound ∷ as_part EndPart Dot ∷ ps) refl refl (end_reads rest ps r))
   formula_reads l (m ∷ ls) rest ps h v k r =
       let b = both_parts (is_known_atom signature m.atom) (all_known ls) k in
-      let close : List Printed = plain CloseRound ∷ as_part EndPart Dot ∷ ps in
+      let close : List Printed = plain_token CloseRound ∷ as_part EndPart Dot ∷ ps in
       let end : List ℕ = codes ").\n" ++ rest in
       let tail : List Printed = barred_then (literal_trees signature ls) close in
       framed_reads l (literal_text signature m ++ barred_text signature ls) rest (literal_then (literal_tree signature m) tail) h

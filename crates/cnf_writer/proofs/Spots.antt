@@ -7,8 +7,8 @@ use Rattle.std.specs.Prelude.{◌&&◌, nat_le, if◌then◌else◌}
 use Rattle.std.specs.List.{count_by}
 use Rattle.tptp_grammar.specs.Terminals.{Terminal, OpenRound, OpenSquare}
 use Rattle.tptp_grammar.specs.Printed.{Printed}
-use Rattle.tptp_grammar.specs.Files.{IsWithin}
-use Rattle.tptp_grammar.specs.Limits.{begins_formula, begins_literal, begins_argument_behind, opens, closes, variable_as, with_variables, formulas_in, open_in, of_formula, literals_in, variables_of, variables_in, passes}
+use Rattle.tptp_grammar.specs.Files.{PassesNoLimit}
+use Rattle.tptp_grammar.specs.Limits.{begins_formula, begins_literal, begins_argument_behind, opens, closes, variable_as, with_variables, formulas_in, open_in, of_formula, literals_in, variables_met, variables_in, passes}
 use Rattle.tptp_grammar.specs.declared.refusal.Which.{Which}
 use Rattle.tptp_grammar.specs.declared.refusal.Which.TheVariants.{Clauses, Literals, Arguments, Variables, Nesting}
 
@@ -85,7 +85,7 @@ of_formula_on acc (x ∷ xs) p =
     by_first (begins_formula x.part) (begins_formula p.part) (of_formula [] (xs ++ p ∷ [])) (of_formula (acc ++ x ∷ []) (xs ++ p ∷ [])) (of_formula [] xs) (of_formula (acc ++ x ∷ []) xs) p
     (of_formula_on [] xs p) (of_formula_on (acc ++ x ∷ []) xs p)
 
-variables_on : (known : List (List ℕ)) (xs : List Printed) (p : Printed) → variables_of known (xs ++ p ∷ []) ≡ with_variables (variables_of known xs) (variable_as p.part p.terminal)
+variables_on : (known : List (List ℕ)) (xs : List Printed) (p : Printed) → variables_met known (xs ++ p ∷ []) ≡ with_variables (variables_met known xs) (variable_as p.part p.terminal)
 variables_on known [] p = refl
 variables_on known (x ∷ xs) p = variables_on (with_variables known (variable_as x.part x.terminal)) xs p
 
@@ -100,7 +100,7 @@ literals_if : (b : Bool) (xs : List Printed) (p : Printed) (n : ℕ) → literal
 literals_if true xs p n e = refl
 literals_if false xs p n e = count_on (λ q. begins_literal q.part) xs p ∙ one_if (begins_literal p.part) (literals_of xs) n e
 
-known_if : (b : Bool) (xs : List Printed) (p : Printed) (vs : List (List ℕ)) → variables_of [] xs ≡ vs → variables_of [] (cond b [] (xs ++ p ∷ [])) ≡ cond b [] (with_variables vs (variable_as p.part p.terminal))
+known_if : (b : Bool) (xs : List Printed) (p : Printed) (vs : List (List ℕ)) → variables_met [] xs ≡ vs → variables_met [] (cond b [] (xs ++ p ∷ [])) ≡ cond b [] (with_variables vs (variable_as p.part p.terminal))
 known_if true xs p vs e = refl
 known_if false xs p vs e = variables_on [] xs p ∙ ap (λ (x : List (List ℕ)). with_variables x (variable_as p.part p.terminal)) e
 
@@ -120,7 +120,7 @@ seen_on : (before : List Printed) (s : Spot) (p : Printed) → Seen before s →
 seen_on before s p h c = record {
   formulas = count_on (λ q. begins_formula q.part) before p ∙ one_if (begins_formula p.part) (formulas_in before) s.formulas h.formulas;
   literals = ap literals_of (of_formula_on [] before p) ∙ literals_if (begins_formula p.part) (of_formula [] before) p s.literals h.literals;
-  known = ap (λ (x : List Printed). variables_of [] x) (of_formula_on [] before p) ∙ known_if (begins_formula p.part) (of_formula [] before) p s.known h.known;
+  known = ap (λ (x : List Printed). variables_met [] x) (of_formula_on [] before p) ∙ known_if (begins_formula p.part) (of_formula [] before) p s.known h.known;
   balance =
       count_on (λ q. opens q.terminal) before p
       ∙ balance_if (opens p.terminal) (closes p.terminal) (count_by (λ q. opens q.terminal) before) (count_by (λ q. closes q.terminal) before) s.opened h.balance c (opens_alone p.terminal)
@@ -152,5 +152,5 @@ pick (q ∷ ps) (r ∷ front) after p which before s seen h e =
     ap (λ (x : List Printed). passes which x p) (ap (λ (x : Printed). before ++ x ∷ front) (sym same) ∙ sym (append_assoc before (q ∷ []) front))
     ∙ pick ps front after p which (before ++ q ∷ []) (behind s q) (seen_on before s q seen h.0.was_open) h.1 (tail_is q r ps (front ++ p ∷ after) e)
 
-pub all_within : (ps : List Printed) → AllFine (spot 0 0 [] 0) ps → IsWithin ps
+pub all_within : (ps : List Printed) → AllFine (spot 0 0 [] 0) ps → PassesNoLimit ps
 all_within ps h before after p which e = pick ps before after p which [] (spot 0 0 [] 0) (record { formulas = refl; literals = refl; known = refl; balance = refl }) h e

@@ -12,7 +12,7 @@ use Rattle.me_terms.specs.Variables.{count}
 use Rattle.me_terms.specs.declared.atom.Literal.{Literal}
 use Rattle.me_terms.specs.declared.symbol.Form.{Form}
 use Rattle.me_terms.specs.declared.symbol.Form.TheVariants as form
-use Rattle.cnf_text.specs.LabelText.{is_lower_word}
+use Rattle.tptp_tokens.specs.Bytes.{is_lower_word}
 use Rattle.tptp_grammar.specs.Written.{Name, Bare, Quoted, WrittenTerm, Variable, Distinct, Apply, WrittenTerms, NoTerms, OneMore, WrittenAtom, Truth, Predicate, Sign, Positive, Negative, WrittenLiteral, WrittenLabel, Named, Numbered, NoNotes, WrittenFormula}
 use Rattle.tptp_grammar.specs.Limits.{with_variables}
 use Rattle.tptp_cnf.specs.Meaning.{word, distinct, symbol}

@@ -6,6 +6,3 @@
 mod problem;
 
 pub use problem::write_problem;
-
-#[cfg(test)]
-mod tests;

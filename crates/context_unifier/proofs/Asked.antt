@@ -12,13 +12,13 @@ use Rattle.me_terms.specs.declared.atom.Pattern.{Pattern}
 use Rattle.me_terms.specs.declared.atom.Pattern.TheVariants.{Of}
 use Rattle.me_unify.specs.Equations.{Equation}
 use Rattle.induced_model.specs.Producers.{ExceptsAt}
-use Rattle.context_unifier.specs.Frozen.{IsFrozen, Tells}
+use Rattle.context_unifier.specs.Frozen.{IsFrozen, TellInstances}
 use Rattle.context_unifier.proofs.FrozenSolutions.{none_frozen}
 
 -- ---- the same equations
-pub tells_same : (one one' other other' : List Equation) (a c : AtomValue) → one ≡ one' → other ≡ other' → Tells one other a c → Tells one' other' a c
+pub tells_same : (one one' other other' : List Equation) (a c : AtomValue) → one ≡ one' → other ≡ other' → TellInstances one other a c → TellInstances one' other' a c
 tells_same one one' other other' a c e d h =
-    subst (λ (z : List Equation). Tells one' z a c) d (subst (λ (y : List Equation). Tells y other a c) e h)
+    subst (λ (z : List Equation). TellInstances one' z a c) d (subst (λ (y : List Equation). TellInstances y other a c) e h)
 
 pub starts : (es bs fs : List Equation) (first n : ℕ) → bs ≡ es → fs ≡ bs → n ≡ first → IsFrozen es first fs n
 starts es bs fs first n is e d =

@@ -9,7 +9,7 @@ use Rattle.me_terms.specs.declared.atom.Literal.{Literal}
 use Rattle.me_unify.specs.Equations.{Equation, IsMostGeneral}
 use Rattle.me_unify.specs.ClauseEquations.{clause_equations}
 use Rattle.joint_unifiers.proofs.Bridge.{solves_of, of_solves}
-use Rattle.context_unifier.specs.Frozen.{ASKED, frozen_as, IsFrozen, IsClosed, Tells, StaysFrozen}
+use Rattle.context_unifier.specs.Frozen.{ASKED, frozen_as, IsFrozen, LeavesGround, TellInstances, StaysFrozen}
 use Rattle.context_unifier.proofs.FrozenSolutions.{AreBelow, tells, one_more}
 
 -- No equation of a clause has the space of an atom that is asked for.
@@ -24,7 +24,7 @@ clause_below context ls ks few v w same h =
     subst (λ (s : Substitution). IsSolvedBy (w (i + 1)) e.atom s l.atom) zeroth second)
 
 pub clause_tells : (context : Context) (ls : List Literal) (ks : List (Option ℕ)) (one other : List Equation) (n m : ℕ) (a : AtomValue) → length ls < ASKED → IsFrozen (clause_equations context ls ks) 0 one n → IsFrozen (clause_equations context ls ks) n other m
-    → IsClosed one a → IsClosed other a → (f : Family) → IsMostGeneral (clause_equations context ls ks) f → Tells one other a (apply_atom (f 0) a)
+    → LeavesGround one a → LeavesGround other a → (f : Family) → IsMostGeneral (clause_equations context ls ks) f → TellInstances one other a (apply_atom (f 0) a)
 clause_tells context ls ks one other n m a few z z' closed closed' f general =
     tells (clause_equations context ls ks) one other n m f a general (clause_below context ls ks few) z z' closed closed'
 

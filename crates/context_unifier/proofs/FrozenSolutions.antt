@@ -13,7 +13,7 @@ use Rattle.me_laws.proofs.NoContradiction.{ground_atom}
 use Rattle.me_laws.proofs.Renaming.{Each, each_map, head_of, variables_agree_all}
 use Rattle.me_unify.specs.Equations.{Equation, equation, SolvesOne, SolvesAll, IsSolvable, IsMostGeneral}
 use Rattle.joint_unifiers.proofs.Bridge.{solves_first, solves_later, solves_one}
-use Rattle.context_unifier.specs.Frozen.{ASKED, unary, frozen_as, at_slot, IsFrozen, IsClosed, asking, Tells}
+use Rattle.context_unifier.specs.Frozen.{ASKED, unary, frozen_as, at_slot, IsFrozen, LeavesGround, asking, TellInstances}
 use Rattle.context_unifier.proofs.Unfreezing.{unfrozen, unfrozen_all, unfrozen_arguments, unfrozen_constants, each_with, ground_each_all, IsOneOf, one_or_none, kept, kept_at, kept_ground, constant_kept}
 
 -- ---- solutions
@@ -56,7 +56,7 @@ module _ (es : List Equation) (first : ℕ) (fs : List Equation) (next : ℕ) (z
         λ i lt. constant_kept r only_held (terms i) (first + i) (λ y e. kept_at terms z.count y i (r y) lt e) (becomes h i lt),
       )
 
-  held_ground : (a : AtomValue) → SolvesAll u es → SolvesAll w fs → IsClosed fs a → are_ground (apply_arguments only_held (apply_arguments (u 0) a.args)) ≡ true
+  held_ground : (a : AtomValue) → SolvesAll u es → SolvesAll w fs → LeavesGround fs a → are_ground (apply_arguments only_held (apply_arguments (u 0) a.args)) ≡ true
   held_ground a general h closed =
       let v = closed.0 in
       let more = closed.1.0.most_general (λ s x. apply_term only_held (u s x)) (others_solve general h) in
@@ -73,7 +73,7 @@ module _ (es : List Equation) (first : ℕ) (fs : List Equation) (next : ℕ) (z
     constant = sym (ap (apply_term r) one.1.1) ∙ becomes h one.0 one.1.0;
   }
 
-  pub each_held : (a : AtomValue) → SolvesAll u es → SolvesAll w fs → IsClosed fs a → Each (IsHeld z.count first z.slot u r) (variables_of (apply_arguments (u 0) a.args))
+  pub each_held : (a : AtomValue) → SolvesAll u es → SolvesAll w fs → LeavesGround fs a → Each (IsHeld z.count first z.slot u r) (variables_of (apply_arguments (u 0) a.args))
   unfolding only_held
   each_held a general h closed =
       each_map (λ y. is_ground (only_held y) ≡ true) (IsHeld z.count first z.slot u r) (λ y g. held h y (kept_ground terms z.count y (r y) g)) (variables_of (apply_arguments (u 0) a.args))
@@ -88,7 +88,7 @@ both_held one other next slot slot' u r s numbers y f g =
     unfrozen_constants (λ i. at_slot u (slot i)) (0 + f.place) (next + g.place) (r y) (s y) less f.constant g.constant
     ∙ (ap (λ (i : ℕ). at_slot u (slot i)) same ∙ f.is)
 
-pub told : (es one other : List Equation) (n m : ℕ) (u : Family) (a b : AtomValue) → IsMostGeneral es u → IsFrozen es 0 one n → IsFrozen es n other m → IsClosed one a → IsClosed other a → IsSolvable (asking one b a) → IsSolvable (asking other b a) → IsInstance b (apply_atom (u 0) a)
+pub told : (es one other : List Equation) (n m : ℕ) (u : Family) (a b : AtomValue) → IsMostGeneral es u → IsFrozen es 0 one n → IsFrozen es n other m → LeavesGround one a → LeavesGround other a → IsSolvable (asking one b a) → IsSolvable (asking other b a) → IsInstance b (apply_atom (u 0) a)
 told es one other n m u a b general z z' closed closed' h h' =
     let question = equation ASKED b 0 a in
     let v = h.0 in
@@ -149,11 +149,11 @@ asked_at n es first fs next u a b some general low z below w h q =
     ∙ ap (λ (s : Substitution). apply_atom s a) (sym (aside_below n own w 0 some))))) in
     (v, solves_both v fs (equation n b 0 a) fs_hold met)
 
-pub asked : (es : List Equation) (first : ℕ) (fs : List Equation) (next : ℕ) (u : Family) (a b : AtomValue) → IsMostGeneral es u → AreBelow ASKED es → IsFrozen es first fs next → IsClosed fs a → IsInstance b (apply_atom (u 0) a) → IsSolvable (asking fs b a)
+pub asked : (es : List Equation) (first : ℕ) (fs : List Equation) (next : ℕ) (u : Family) (a b : AtomValue) → IsMostGeneral es u → AreBelow ASKED es → IsFrozen es first fs next → LeavesGround fs a → IsInstance b (apply_atom (u 0) a) → IsSolvable (asking fs b a)
 asked es first fs next u a b general low z closed q =
     asked_at ASKED es first fs next u a b (omega arith) general low z z.below closed.0 closed.1.0.solves q
 
-pub tells : (es one other : List Equation) (n m : ℕ) (u : Family) (a : AtomValue) → IsMostGeneral es u → AreBelow ASKED es → IsFrozen es 0 one n → IsFrozen es n other m → IsClosed one a → IsClosed other a → Tells one other a (apply_atom (u 0) a)
+pub tells : (es one other : List Equation) (n m : ℕ) (u : Family) (a : AtomValue) → IsMostGeneral es u → AreBelow ASKED es → IsFrozen es 0 one n → IsFrozen es n other m → LeavesGround one a → LeavesGround other a → TellInstances one other a (apply_atom (u 0) a)
 tells es one other n m u a general low z z' closed closed' b = (
   λ h. told es one other n m u a b general z z' closed closed' h.0 h.1,
   λ q. (asked es 0 one n u a b general low z closed q, asked es n other m u a b general low z' closed' q),

@@ -5,6 +5,7 @@ pub mod Beyond
 pub mod Followed
 pub mod FrozenClauses
 pub mod FrozenSolutions
+pub mod PrefixEquations
 pub mod Prefixes
 pub mod Produced
 pub mod Remains

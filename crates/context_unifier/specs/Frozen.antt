@@ -35,13 +35,13 @@ StaysFrozen old n new m =
     (equations : List Equation) (first : ℕ) → IsFrozen equations first old n → IsFrozen equations first new m
 
 -- The equations leave no variable in the atom.
-abbrev pub IsClosed : List Equation → AtomValue → Type 0
-IsClosed equations a = (v : Family) × (IsMostGeneral equations v × (are_ground (apply_arguments (v 0) a.args) ≡ true))
+abbrev pub LeavesGround : List Equation → AtomValue → Type 0
+LeavesGround equations a = (v : Family) × (IsMostGeneral equations v × (are_ground (apply_arguments (v 0) a.args) ≡ true))
 
 -- The equations, and that the atom asked for is the other one.
 abbrev pub asking : List Equation → AtomValue → AtomValue → List Equation
 asking equations b a = equations ++ equation ASKED b 0 a ∷ []
 
 -- Which atoms c is an instance of, both lists of equations together tell by the atom a.
-abbrev pub Tells : List Equation → List Equation → AtomValue → AtomValue → Type 0
-Tells one other a c = (b : AtomValue) → (IsSolvable (asking one b a) × IsSolvable (asking other b a)) ↔ IsInstance b c
+abbrev pub TellInstances : List Equation → List Equation → AtomValue → AtomValue → Type 0
+TellInstances one other a c = (b : AtomValue) → (IsSolvable (asking one b a) × IsSolvable (asking other b a)) ↔ IsInstance b c

@@ -9,7 +9,7 @@ ghost use Rattle.me_terms.specs.Produces.{HasException};
 ghost use Rattle.me_terms.specs.declared.atom.Pattern.TheVariants as pattern;
 ghost use Rattle.me_terms.specs.declared.entry.Kind.TheVariants as kind;
 ghost use Rattle.induced_model.specs.Producers.{ExceptsAt};
-ghost use Rattle.context_unifier.specs.Frozen.{Tells};
+ghost use Rattle.context_unifier.specs.Frozen.{TellInstances};
 
 use crate::frozen::Frozen;
 use me_terms::{Entry, Kind, Literal, Pattern, View, strictly_more_general};
@@ -36,7 +36,7 @@ fn falls_under(
 ) -> Result<bool, AllocError>
     ensures one { frozen.new.one ≡ frozen.old.one }
     ensures other { frozen.new.other ≡ frozen.old.other }
-    ensures exact { IfOk result (λ b. (c : AtomValue) → Tells frozen.old.one frozen.old.other literal.now.atom c → IsTrue b ↔ Generalizes general.now (pattern.Of c)) }
+    ensures exact { IfOk result (λ b. (c : AtomValue) → TellInstances frozen.old.one frozen.old.other literal.now.atom c → IsTrue b ↔ Generalizes general.now (pattern.Of c)) }
 {
     match general {
         Pattern::Any => Ok(true),
@@ -54,7 +54,7 @@ fn excepts<V: View>(
 ) -> Result<bool, AllocError>
     ensures one { frozen.new.one ≡ frozen.old.one }
     ensures other { frozen.new.other ≡ frozen.old.other }
-    ensures exact { IfOk result (λ b. (c : AtomValue) → Tells frozen.old.one frozen.old.other literal.now.atom c → IsTrue b ↔ ExceptsAt (V.context view.now) j entry.now c) }
+    ensures exact { IfOk result (λ b. (c : AtomValue) → TellInstances frozen.old.one frozen.old.other literal.now.atom c → IsTrue b ↔ ExceptsAt (V.context view.now) j entry.now c) }
 {
     let Some(other) = view.entry(j) else {
         return Ok(false);
@@ -72,7 +72,7 @@ pub(crate) fn has_exception<V: View>(
     frozen: &mut Frozen,
     literal: &Literal,
 ) -> Result<bool, AllocError>
-    ensures { IfOk result (λ b. (c : AtomValue) → Tells frozen.old.one frozen.old.other literal.now.atom c → IsTrue b ↔ HasException (V.context view.now) entry.now c) }
+    ensures { IfOk result (λ b. (c : AtomValue) → TellInstances frozen.old.one frozen.old.other literal.now.atom c → IsTrue b ↔ HasException (V.context view.now) entry.now c) }
 {
     for j in 0..view.len() {
         if excepts(view, j, entry, frozen, literal)? {

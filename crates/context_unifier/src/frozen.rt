@@ -9,10 +9,10 @@ ghost use Rattle.me_terms.specs.Substitutions.{Family, apply_atom, IsInstance};
 ghost use Rattle.me_terms.specs.Positions.{positions_of};
 ghost use Rattle.me_unify.specs.Equations.{IsMostGeneral, IsSolvable};
 ghost use Rattle.me_unify.specs.ClauseEquations.{clause_equations};
-ghost use Rattle.context_unifier.specs.Frozen.{IsFrozen, IsClosed, asking, Tells};
+ghost use Rattle.context_unifier.specs.Frozen.{IsFrozen, LeavesGround, asking, TellInstances};
 
-use crate::clause_bindings::clause_bindings;
 use crate::freezing::Freezing;
+use joint_unifiers::clause_bindings;
 use me_terms::{Atom, Literal, Tuple, View};
 use me_unify::Bindings;
 use std::alloc::{AllocError, Global};
@@ -27,7 +27,7 @@ pub(crate) struct Frozen {
 /// Whether the bindings leave no variable in the literal.
 fn is_closed(bindings: &mut Bindings, literal: &Literal) -> Result<bool, AllocError>
     ensures kept { bindings.new ≡ bindings.old }
-    ensures closed { IfOk result (λ b. IsTrue b → IsClosed bindings.old literal.now.atom) }
+    ensures closed { IfOk result (λ b. IsTrue b → LeavesGround bindings.old literal.now.atom) }
 {
     let _equations = bindings.mark();
     let measure = bindings.measure(0, &literal.atom)?;
@@ -58,7 +58,7 @@ fn freeze_clause<V: View>(
     requires few { length literals.now < 2 ^ 32 - 1 }
     ensures { IfOk result (λ r. IfSome r (λ z. IsFrozen (clause_equations (V.context view.now) literals.now (positions_of None tuple.now.items)) first z.bindings z.next)) }
 {
-    let Some(bindings) = clause_bindings(alloc, literals, view, tuple)? else {
+    let Some(bindings) = clause_bindings(alloc, view, literals, None, tuple)? else {
         return Ok(None);
     };
     let mut freezing = Freezing::new(alloc, bindings, first);
@@ -79,7 +79,7 @@ impl Frozen {
     ) -> Result<Option<Frozen>, AllocError>
         requires each_place { length tuple.now.items ≡ length literals.now }
         requires few { length literals.now < 2 ^ 32 - 1 }
-        ensures { IfOk result (λ r. IfSome r (λ z. (f : Family) → IsMostGeneral (clause_equations (V.context view.now) literals.now (positions_of None tuple.now.items)) f → Tells z.one z.other literal.now.atom (apply_atom (f 0) literal.now.atom))) }
+        ensures { IfOk result (λ r. IfSome r (λ z. (f : Family) → IsMostGeneral (clause_equations (V.context view.now) literals.now (positions_of None tuple.now.items)) f → TellInstances z.one z.other literal.now.atom (apply_atom (f 0) literal.now.atom))) }
     {
         let Some(one) = freeze_clause(alloc, literals, view, tuple, 0)? else {
             return Ok(None);
@@ -102,7 +102,7 @@ impl Frozen {
     pub(crate) fn is_instance(&mut self, atom: &Atom, literal: &Literal) -> Result<bool, AllocError>
         ensures one { self.new.one ≡ self.old.one }
         ensures other { self.new.other ≡ self.old.other }
-        ensures exact { IfOk result (λ b. (c : AtomValue) → Tells self.old.one self.old.other literal.now.atom c → IsTrue b ↔ IsInstance atom.now c) }
+        ensures exact { IfOk result (λ b. (c : AtomValue) → TellInstances self.old.one self.old.other literal.now.atom c → IsTrue b ↔ IsInstance atom.now c) }
     {
         if !goes_with(&mut self.one, atom, literal)? {
             return Ok(false);

@@ -4,7 +4,6 @@
 //! no tuple is tried whose first positions do not unify, or are beyond its `Limits`.
 #![tactic(auto)]
 
-mod clause_bindings;
 mod cursor;
 mod exceptions;
 mod freezing;

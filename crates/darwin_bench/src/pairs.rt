@@ -4,7 +4,7 @@
 //! or each is matched by itself. What succeeded is counted.
 use crate::atoms::{Pair, Shape, pairs_of};
 use anyhow::Result;
-use me_terms::generalizes;
+use me_terms::is_instance;
 use me_unify::Bindings;
 use std::alloc::{AllocError, Global};
 
@@ -21,7 +21,7 @@ fn unified(alloc: Global, pairs: &[Pair]) -> Result<u64, AllocError> {
 fn matched(pairs: &[Pair]) -> u64 {
     let mut count = 0u64;
     for pair in pairs {
-        count = count.saturating_add(u64::from(generalizes(&pair.left, &pair.right)));
+        count = count.saturating_add(u64::from(is_instance(&pair.left, &pair.right)));
     }
     count
 }

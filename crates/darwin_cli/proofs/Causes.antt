@@ -5,6 +5,7 @@ use Rattle.std.proofs.lemmas.Option.{same_Some}
 use Rattle.std.specs.Prelude.{IfOk, IfErr, IfSome}
 use Rattle.std.specs.Io.KnownBytes.{Consumes, IsAtEnd}
 use Rattle.me_io.specs.Source.{Rose, GaveFront}
+use Rattle.me_io.specs.declared.source.TheConstants.{MAX_BYTES}
 use Rattle.me_terms.specs.Values.{ProblemValue}
 use Rattle.tptp_grammar.specs.declared.refusal.Refusal.{Refusal as FileRefusal}
 use Rattle.tptp_grammar.specs.declared.refusal.Refusal.TheVariants as file
@@ -81,10 +82,10 @@ module _ {S : Type 0} (left : S → Option (List ℕ)) (given : S → ℕ) (ende
   same_bytes bytes other told all = all_consumed (left old) (left new) bytes other told all.none_left all.gone
 
   -- few bytes are not too many
-  not_too_many : (bytes : List ℕ) → left old ≡ Some bytes → length bytes ≤ 67108864 → GaveTooMany left given ended faults options old new → ⊥
+  not_too_many : (bytes : List ℕ) → left old ≡ Some bytes → length bytes ≤ MAX_BYTES → GaveTooMany left given ended faults options old new → ⊥
   not_too_many bytes told few many =
-      let P : Option (List ℕ) → Type 0 = λ o. IfSome o (λ xs. 67108864 < length xs) in
-      let long : 67108864 < length bytes = subst P told many.told in
+      let P : Option (List ℕ) → Type 0 = λ o. IfSome o (λ xs. MAX_BYTES < length xs) in
+      let long : MAX_BYTES < length bytes = subst P told many.told in
       absurd (omega (arith, few))
 
   -- a source that tells its bytes is refused for what stands in these
@@ -94,7 +95,7 @@ module _ {S : Type 0} (left : S → Option (List ℕ)) (given : S → ℕ) (ende
       subst P (same_bytes bytes cause.1.0 told cause.1.1) cause.1.2
 
   -- with bytes that are refused for what stands in them
-  pub refused_status : (bytes : List ℕ) (due r : Refusal) → left old ≡ Some bytes → length bytes ≤ 67108864 → IsFileCause bytes due → IsCause left given ended faults options old new r → (status_of r ≡ status_of due) ⊎ (5 ≤ status_of r)
+  pub refused_status : (bytes : List ℕ) (due r : Refusal) → left old ≡ Some bytes → length bytes ≤ MAX_BYTES → IsFileCause bytes due → IsCause left given ended faults options old new r → (status_of r ≡ status_of due) ⊎ (5 ≤ status_of r)
   refused_status bytes due Usage told few is cause = absurd cause
   refused_status bytes due (Syntax at) told few is cause = inl (same_status bytes (Syntax at) due (refused_for bytes (Syntax at) told cause) is)
   refused_status bytes due (Inappropriate what at) told few is cause = inl (same_status bytes (Inappropriate what at) due (refused_for bytes (Inappropriate what at) told cause) is)
@@ -104,7 +105,7 @@ module _ {S : Type 0} (left : S → Option (List ℕ)) (given : S → ℕ) (ende
   refused_status bytes due Memory told few is cause = inr (omega arith)
 
   -- with a file whose problem is solved
-  pub file_status : (bytes : List ℕ) (problem : ProblemValue) (r : Refusal) → left old ≡ Some bytes → length bytes ≤ 67108864 → IsFile bytes problem → IsCause left given ended faults options old new r → (status_of r ≡ 0) ⊎ (5 ≤ status_of r)
+  pub file_status : (bytes : List ℕ) (problem : ProblemValue) (r : Refusal) → left old ≡ Some bytes → length bytes ≤ MAX_BYTES → IsFile bytes problem → IsCause left given ended faults options old new r → (status_of r ≡ 0) ⊎ (5 ≤ status_of r)
   file_status bytes problem Usage told few means cause = absurd cause
   file_status bytes problem (Syntax at) told few means cause = absurd (not_refused bytes problem (Syntax at) means (refused_for bytes (Syntax at) told cause))
   file_status bytes problem (Inappropriate what at) told few means cause = absurd (not_refused bytes problem (Inappropriate what at) means (refused_for bytes (Inappropriate what at) told cause))
@@ -114,7 +115,7 @@ module _ {S : Type 0} (left : S → Option (List ℕ)) (given : S → ℕ) (ende
   file_status bytes problem Memory told few means cause = inr (omega arith)
 
   -- with such a file, and no fault
-  pub complete_status : (bytes : List ℕ) (problem : ProblemValue) (r : Refusal) → left old ≡ Some bytes → length bytes ≤ 67108864 → IsFile bytes problem → (Rose (faults old) (faults new) → ⊥) → IsCause left given ended faults options old new r → (status_of r ≡ 0) ⊎ (status_of r ≡ 7)
+  pub complete_status : (bytes : List ℕ) (problem : ProblemValue) (r : Refusal) → left old ≡ Some bytes → length bytes ≤ MAX_BYTES → IsFile bytes problem → (Rose (faults old) (faults new) → ⊥) → IsCause left given ended faults options old new r → (status_of r ≡ 0) ⊎ (status_of r ≡ 7)
   complete_status bytes problem Usage told few means quiet cause = absurd cause
   complete_status bytes problem (Syntax at) told few means quiet cause = absurd (not_refused bytes problem (Syntax at) means (refused_for bytes (Syntax at) told cause))
   complete_status bytes problem (Inappropriate what at) told few means quiet cause = absurd (not_refused bytes problem (Inappropriate what at) means (refused_for bytes (Inappropriate what at) told cause))
@@ -137,7 +138,7 @@ module _ {S : Type 0} (left : S → Option (List ℕ)) (given : S → ℕ) (ende
       not_refused bytes answered.problem due (subst P (same_bytes bytes asked.0 told asked.1) asked.2) is
 
   -- a source that was read to its end gave up all its bytes
-  pub read_gave_all : (bytes : List ℕ) → IfSome (left old) (λ xs. bytes ≡ xs) → IsAtEnd (left new) → GaveFront (left old) (left new) (given old) (given new) → given new ≡ given old + length bytes → ended new → length bytes ≤ 67108864 → GaveAll left given ended faults options old new bytes
+  pub read_gave_all : (bytes : List ℕ) → IfSome (left old) (λ xs. bytes ≡ xs) → IsAtEnd (left new) → GaveFront (left old) (left new) (given old) (given new) → given new ≡ given old + length bytes → ended new → length bytes ≤ MAX_BYTES → GaveAll left given ended faults options old new bytes
   read_gave_all bytes whole end front counted at_end few =
       record { gone = all_given (left old) (left new) bytes (given old) (given new) whole end front; counted = counted; end = at_end; none_left = end; few = few }
 

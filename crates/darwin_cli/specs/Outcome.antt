@@ -1,13 +1,15 @@
 -- What the program owes to the options of a call and to what it is given: which refusals have their cause, and which answers are true of the problem.
-use Rattle.std.specs.Prelude.{◌≡◌, ◌⊎◌, ◌+◌, ◌<◌, ◌≤◌, ℕ, false, List, length, Option, Some, None, IfSome}
+use Rattle.std.specs.Prelude.{◌≡◌, ◌⊎◌, ◌+◌, ◌<◌, ◌≤◌, ℕ, List, length, Option, Some, None, IfSome}
 use Rattle.std.specs.Io.KnownBytes.{Consumes, IsAtEnd, Appends}
 use Rattle.me_io.specs.Source.{Rose}
+use Rattle.me_io.specs.declared.source.TheConstants.{MAX_BYTES}
 use Rattle.me_terms.specs.Values.{ProblemValue}
-use Rattle.me_terms.specs.Answer.{AnswerValue, HasAnswer}
+use Rattle.me_terms.specs.Answer.{AnswerValue}
 use Rattle.me_terms.specs.AnswerViews.{answer_value}
+use Rattle.me_terms.specs.Deepening.{HasAnswerFrom}
 use Rattle.me_terms.specs.declared.answer.Answer.{Answer}
 use Rattle.me_terms.specs.declared.bounds.Bounds.{Bounds}
-use Rattle.me_counting.specs.FunctionFree.{IsFunctionFree, IsRoomy}
+use Rattle.me_laws_counting.specs.FunctionFree.{IsFunctionFree, IsRoomy}
 use Rattle.darwin_solve.specs.Evidence.{HasRefutation, HasModel, MeetsOnlyList}
 use Rattle.tptp_grammar.specs.declared.refusal.Refusal.TheVariants as file
 use Rattle.tptp_cnf.specs.Files.{IsFile}
@@ -16,15 +18,16 @@ use Rattle.tptp_cnf.specs.declared.error.CnfError.{CnfError}
 use Rattle.tptp_cnf.specs.declared.error.CnfError.TheVariants as error
 use Rattle.make_problem.specs.Made.{IsMade}
 use Rattle.darwin_options.specs.declared.options.Options.{Options}
+use Rattle.darwin_cli.specs.declared.answer.TheConstants.{MADE_PREDICATES, MADE_CLAUSES}
 use Rattle.szs_print.specs.AnswerText.{IsAnswerText}
 use Rattle.szs_print.specs.SummaryText.{IsSummary}
 use Rattle.szs_print.specs.RefusalText.{refusal_text}
 use Rattle.szs_print.specs.declared.refusal.Refusal.{Refusal}
 use Rattle.szs_print.specs.declared.refusal.Refusal.TheVariants.{Usage, Syntax, Inappropriate, Limit, Length, Read, Memory}
 
--- The answer to the problem within these bounds, with what makes it sure: a list of ground instances of the clauses that no choice of truth values makes true, or a context that makes every ground instance of every clause true; and where there are no functions with arguments and the bounds are wide, no bound but that of the list is met.
-pub record IsSure (problem : ProblemValue) (bounds : Bounds) (reply : AnswerValue) : Type 0 where
-  pub is_answer : HasAnswer problem bounds false reply
+-- The answer to the problem within these bounds, with deepening from a depth: that of the tree of the depth at which the search stops. Where the search gave up, the bound is one that this tree met. With the answer comes what makes it sure: a list of ground instances of the clauses that no choice of truth values makes true, or a context that makes every ground instance of every clause true; and where there are no functions with arguments and the bounds are wide, no bound but that of the list is met.
+pub record IsSure (problem : ProblemValue) (bounds : Bounds) (from : ℕ) (reply : AnswerValue) : Type 0 where
+  pub is_answer : HasAnswerFrom problem bounds from reply
   pub refuted : HasRefutation problem bounds reply
   pub model : HasModel problem reply
   pub function_free : IsFunctionFree problem → IsRoomy problem bounds → MeetsOnlyList reply
@@ -69,17 +72,17 @@ module _ {S : Type 0} (left : S → Option (List ℕ)) (given : S → ℕ) (ende
     pub counted : given new ≡ given old + length bytes
     pub end : ended new
     pub none_left : IsAtEnd (left new)
-    pub few : length bytes ≤ 67108864
+    pub few : length bytes ≤ MAX_BYTES
 
-  -- The source gave up a byte after the first 67,108,864, and where it tells its bytes, so many were left in it.
+  -- The source gave up a byte after the first MAX_BYTES, and where it tells its bytes, so many were left in it.
   pub record GaveTooMany : Type 0 where
-    pub counted : given old + 67108864 < given new
-    pub told : IfSome (left old) (λ bytes. 67108864 < length bytes)
+    pub counted : given old + MAX_BYTES < given new
+    pub told : IfSome (left old) (λ bytes. MAX_BYTES < length bytes)
 
-  -- The problem that is asked for: that which the bytes of the source mean, or where there is a seed that which is made of it, with 30 predicates and 100 clauses, and then the source is left alone.
+  -- The problem that is asked for: that which the bytes of the source mean, or where there is a seed that which is made of it, with so many predicates and clauses, and then the source is left alone.
   abbrev pub IsAskedFor : Option ℕ → ProblemValue → Type 0
   IsAskedFor None problem = (bytes : List ℕ) × GaveAll bytes × IsFile bytes problem
-  IsAskedFor (Some seed) problem = (new ≡ old) × IsMade seed 30 100 problem
+  IsAskedFor (Some seed) problem = (new ≡ old) × IsMade seed MADE_PREDICATES MADE_CLAUSES problem
 
   -- The bytes of the source were read to their end, and are refused for what stands in them.
   abbrev pub IsFileRefused : Refusal → Type 0
@@ -95,12 +98,12 @@ module _ {S : Type 0} (left : S → Option (List ℕ)) (given : S → ℕ) (ende
   IsCause Read = (options.make ≡ None) × Rose (faults old) (faults new)
   IsCause Memory = Unit {0}
 
-  -- The text is that of an answer over the problem that is asked for, within the bounds of the options.
+  -- The text is that of an answer over the problem that is asked for, within the bounds of the options, from the depth that they begin with.
   pub record IsAnswered (text : List ℕ) : Type 0 where
     pub problem : ProblemValue
     pub answer : Answer
     pub asked : IsAskedFor options.make problem
-    pub sure : IsSure problem options.bounds (answer_value answer)
+    pub sure : IsSure problem options.bounds options.from (answer_value answer)
     pub text_is : IsTextFor options.make options.name.items problem answer text
 
   -- A refusal of this status has its cause, and its text was written to a sink, which held these bytes before and those after it.

@@ -5,7 +5,10 @@
 #![tactic(auto)]
 
 mod answer;
+mod limits;
 mod top;
 
+pub use answer::{MADE_CLAUSES, MADE_PREDICATES};
 pub use darwin_options::{Options, WordsError, read_words};
+pub use limits::numbers;
 pub use top::{run, run_alone};

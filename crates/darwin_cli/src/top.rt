@@ -5,6 +5,7 @@
 ghost use Rattle.std.specs.Prelude.{◌≡◌, ◌+◌, ◌<◌, ◌≤◌, ◌≢◌, ◌⊎◌, ℕ, List, length, None, Some, IsSome};
 ghost use Rattle.std.specs.Io.KnownBytes.{Appends};
 ghost use Rattle.me_io.specs.Source.{Rose};
+ghost use Rattle.me_io.specs.declared.source.TheConstants.{MAX_BYTES};
 ghost use Rattle.me_io.specs.Sink.{AppendedFront};
 ghost use Rattle.me_terms.specs.Values.{ProblemValue};
 ghost use Rattle.szs_print.specs.RefusalText.{refusal_text};
@@ -49,11 +50,11 @@ pub fn run<S: Source, K: Sink>(
     // Each cause comes with its status, but for faults and want of memory.
     ensures usage { ¬ AreAccepted words.now.items → (result ≡ 1) ⊎ (6 ≤ result) }
     ensures unread { ¬ AreAccepted words.now.items → source.new ≡ source.old }
-    ensures too_long { S.given source.old + 67108864 < S.given source.new → (result ≡ 4) ⊎ (result ≡ 6) }
+    ensures too_long { S.given source.old + MAX_BYTES < S.given source.new → (result ≡ 4) ⊎ (result ≡ 6) }
     // Of sources that tell their bytes.
-    ensures refused_file { AskForFile words.now.items → (bytes : List ℕ) (refusal : RefusalValue) → S.left source.old ≡ Some bytes → length bytes ≤ 67108864 → IsFileCause bytes refusal → (result ≡ status_number refusal) ⊎ (5 ≤ result) }
-    ensures file { AskForFile words.now.items → (bytes : List ℕ) (problem : ProblemValue) → S.left source.old ≡ Some bytes → length bytes ≤ 67108864 → IsFile bytes problem → (result ≡ 0) ⊎ (5 ≤ result) }
-    ensures complete { AskForFile words.now.items → (bytes : List ℕ) (problem : ProblemValue) → S.left source.old ≡ Some bytes → length bytes ≤ 67108864 → IsFile bytes problem → ¬ Rose (S.faults source.old) (S.faults source.new) → ¬ Rose (K.faults sink.old) (K.faults sink.new) → (result ≡ 0) ⊎ (result ≡ 7) }
+    ensures refused_file { AskForFile words.now.items → (bytes : List ℕ) (refusal : RefusalValue) → S.left source.old ≡ Some bytes → length bytes ≤ MAX_BYTES → IsFileCause bytes refusal → (result ≡ status_number refusal) ⊎ (5 ≤ result) }
+    ensures file { AskForFile words.now.items → (bytes : List ℕ) (problem : ProblemValue) → S.left source.old ≡ Some bytes → length bytes ≤ MAX_BYTES → IsFile bytes problem → (result ≡ 0) ⊎ (5 ≤ result) }
+    ensures complete { AskForFile words.now.items → (bytes : List ℕ) (problem : ProblemValue) → S.left source.old ≡ Some bytes → length bytes ≤ MAX_BYTES → IsFile bytes problem → ¬ Rose (S.faults source.old) (S.faults source.new) → ¬ Rose (K.faults sink.old) (K.faults sink.new) → (result ≡ 0) ⊎ (result ≡ 7) }
     // Of made problems.
     ensures made { AskForMade words.now.items → (result ≡ 0) ⊎ (6 ≤ result) }
     ensures made_unread { AskForMade words.now.items → source.new ≡ source.old }
@@ -94,11 +95,11 @@ pub fn run_alone<S: Source, K: Sink>(
     ensures sink_fault { result ≡ 6 → Rose (K.faults sink.old) (K.faults sink.new) }
 
     // Each cause comes with its status, but for faults and want of memory.
-    ensures too_long { S.given source.old + 67108864 < S.given source.new → (result ≡ 4) ⊎ (result ≡ 6) }
+    ensures too_long { S.given source.old + MAX_BYTES < S.given source.new → (result ≡ 4) ⊎ (result ≡ 6) }
     // Of sources that tell their bytes.
-    ensures refused_file { options.now.make ≡ None → (bytes : List ℕ) (refusal : RefusalValue) → S.left source.old ≡ Some bytes → length bytes ≤ 67108864 → IsFileCause bytes refusal → (result ≡ status_number refusal) ⊎ (5 ≤ result) }
-    ensures file { options.now.make ≡ None → (bytes : List ℕ) (problem : ProblemValue) → S.left source.old ≡ Some bytes → length bytes ≤ 67108864 → IsFile bytes problem → (result ≡ 0) ⊎ (5 ≤ result) }
-    ensures complete { options.now.make ≡ None → (bytes : List ℕ) (problem : ProblemValue) → S.left source.old ≡ Some bytes → length bytes ≤ 67108864 → IsFile bytes problem → ¬ Rose (S.faults source.old) (S.faults source.new) → ¬ Rose (K.faults sink.old) (K.faults sink.new) → (result ≡ 0) ⊎ (result ≡ 7) }
+    ensures refused_file { options.now.make ≡ None → (bytes : List ℕ) (refusal : RefusalValue) → S.left source.old ≡ Some bytes → length bytes ≤ MAX_BYTES → IsFileCause bytes refusal → (result ≡ status_number refusal) ⊎ (5 ≤ result) }
+    ensures file { options.now.make ≡ None → (bytes : List ℕ) (problem : ProblemValue) → S.left source.old ≡ Some bytes → length bytes ≤ MAX_BYTES → IsFile bytes problem → (result ≡ 0) ⊎ (5 ≤ result) }
+    ensures complete { options.now.make ≡ None → (bytes : List ℕ) (problem : ProblemValue) → S.left source.old ≡ Some bytes → length bytes ≤ MAX_BYTES → IsFile bytes problem → ¬ Rose (S.faults source.old) (S.faults source.new) → ¬ Rose (K.faults sink.old) (K.faults sink.new) → (result ≡ 0) ⊎ (result ≡ 7) }
     // Of made problems.
     ensures made { IsSome options.now.make → (result ≡ 0) ⊎ (6 ≤ result) }
     ensures made_unread { IsSome options.now.make → source.new ≡ source.old }

@@ -17,7 +17,7 @@ use Rattle.clap.specs.declared.parser.matches.ArgMatches.{ArgMatches}
 use Rattle.darwin_options.specs.declared.error.WordsError.{WordsError}
 use Rattle.darwin_options.specs.declared.error.WordsError.TheVariants.{Memory, Usage}
 use Rattle.clap.proofs.WalkLemmas.{first_value-rows, list_any-map}
-use Rattle.darwin_options.specs.Settings.{OptionKind, Name, Depth, Weight, Literals, ListWeight, Workers, Share, Make, Word, Setting, long_name, written_name, is_of, value_of, ReadsAs, nothing, two_words, one_word, AreDistinct, Distinguishes}
+use Rattle.darwin_options.specs.Settings.{OptionKind, Name, Depth, From, Weight, Literals, ListWeight, Workers, Share, StartSign, Make, Word, Setting, long_name, written_name, is_of, value_of, ReadsAs, nothing, two_words, one_word, AreDistinctSettings, Distinguishes}
 use Rattle.darwin_options.specs.OptionsCommand.{all_options, options_app, is_bare, is_readable, HoldsValuesOf, IsFoundIn, AreNoSettings}
 use Rattle.darwin_options.proofs.Turns.{top, rules, no_defaults, same_rows}
 use Rattle.darwin_options.proofs.Reading.{rows_for}
@@ -58,7 +58,7 @@ first-value o (s ∷ settings) = go (first-value o settings) (is_of o s)
 
 -- the words that a parse takes are settings, and it finds their values
 pub found_settings : (program : Word) (words : List Word) (matches : ArgMatches) → list_any is_bare words ≡ false → fault_of options_app (program ∷ words) ≡ []
-    → rows_of (found_of matches) ≡ matches_of options_app (program ∷ words) → (settings : List Setting) × AreDistinct words settings × HoldsValuesOf settings matches
+    → rows_of (found_of matches) ≡ matches_of options_app (program ∷ words) → (settings : List Setting) × AreDistinctSettings words settings × HoldsValuesOf settings matches
 found_settings program words matches free none found =
     let reading = read words free [] None (λ i j d lt inside. absurd (omega arith)) (sym (fault-is program words) ∙ none) in (
       reading.settings,
@@ -68,12 +68,12 @@ found_settings program words matches free none found =
     )
 
 -- settings are taken
-pub takes_settings : (program : Word) (words : List Word) (settings : List Setting) → AreDistinct words settings → fault_of options_app (program ∷ words) ≡ []
+pub takes_settings : (program : Word) (words : List Word) (settings : List Setting) → AreDistinctSettings words settings → fault_of options_app (program ∷ words) ≡ []
 takes_settings program words settings given = fault-is program words ∙ (taken given.read [] None given.once).0
 
 -- any settings that the words are have the values that a parse finds
 pub same_values : (program : Word) (words : List Word) (matches : ArgMatches) → rows_of (found_of matches) ≡ matches_of options_app (program ∷ words)
-    → (settings : List Setting) → AreDistinct words settings → HoldsValuesOf settings matches
+    → (settings : List Setting) → AreDistinctSettings words settings → HoldsValuesOf settings matches
 same_values program words matches found settings given o =
     first_value-rows (found_of matches) (long_name o)
     ∙ ap (first_of (long_name o)) (found ∙ rows-are program words ∙ (taken given.read [] None given.once).1) ∙ first-value o settings
@@ -83,21 +83,25 @@ same_values program words matches found settings given o =
 plain_name : (o : OptionKind) → is_bare (written_name o) ≡ false
 plain_name Name = refl
 plain_name Depth = refl
+plain_name From = refl
 plain_name Weight = refl
 plain_name Literals = refl
 plain_name ListWeight = refl
 plain_name Workers = refl
 plain_name Share = refl
+plain_name StartSign = refl
 plain_name Make = refl
 
 plain_both : (o : OptionKind) (v : Word) → is_bare (written_name o ++ 61 ∷ v) ≡ false
 plain_both Name v = refl
 plain_both Depth v = refl
+plain_both From v = refl
 plain_both Weight v = refl
 plain_both Literals v = refl
 plain_both ListWeight v = refl
 plain_both Workers v = refl
 plain_both Share v = refl
+plain_both StartSign v = refl
 plain_both Make v = refl
 
 -- settings have no bare word

@@ -9,7 +9,7 @@ use Rattle.clap.specs.Kinds.{Kinds}
 use Rattle.clap.specs.Walk.{Row, has_row, settled_rows}
 use Rattle.clap.specs.Faults.{settle_fault, use_fault}
 use Rattle.clap.specs.declared.error.kind.ErrorKind.{ErrorKind}
-use Rattle.darwin_options.specs.Settings.{OptionKind, Name, Depth, Weight, Literals, ListWeight, Workers, Share, Make, Word, Setting, long_name, AreDifferent}
+use Rattle.darwin_options.specs.Settings.{OptionKind, Name, Depth, From, Weight, Literals, ListWeight, Workers, Share, StartSign, Make, Word, Setting, long_name, AreDifferent}
 use Rattle.darwin_options.specs.OptionsCommand.{all_options}
 use Rattle.darwin_options.proofs.Turns.{rules, rule, row, Pending, held, pending_fault, pending_rows, use_again, use_first, used_first}
 
@@ -21,11 +21,13 @@ decoded name = slice_index_or all_options (position_or_len (λ o. bytes_eq (long
 decoded-long_name : (o : OptionKind) → decoded (long_name o) ≡ o
 decoded-long_name Name = refl
 decoded-long_name Depth = refl
+decoded-long_name From = refl
 decoded-long_name Weight = refl
 decoded-long_name Literals = refl
 decoded-long_name ListWeight = refl
 decoded-long_name Workers = refl
 decoded-long_name Share = refl
+decoded-long_name StartSign = refl
 decoded-long_name Make = refl
 
 pub same_option : (a b : OptionKind) → bytes_eq (long_name a) (long_name b) ≡ true → a ≡ b

@@ -9,7 +9,7 @@ use Rattle.clap.specs.Simple.{Shape, built, filled, with_index}
 use Rattle.clap.specs.Faults.{defaults_fault, react_fault, settle_fault, turn_fault, use_fault}
 use Rattle.clap.specs.declared.parser.matches.ValueSource.TheVariants.{CommandLine}
 use Rattle.clap.specs.declared.error.kind.ErrorKind.TheVariants.{ArgumentConflict, InvalidValue, UnknownArgument}
-use Rattle.darwin_options.specs.Settings.{OptionKind, Name, Depth, Weight, Literals, ListWeight, Workers, Share, Make, Word, Setting, long_name, written_name}
+use Rattle.darwin_options.specs.Settings.{OptionKind, Name, Depth, From, Weight, Literals, ListWeight, Workers, Share, StartSign, Make, Word, Setting, long_name, written_name}
 use Rattle.darwin_options.specs.OptionsCommand.{all_options, begins_with_hyphen, options_app, rule_of_option}
 
 abbrev pub top : Shape
@@ -43,11 +43,13 @@ at rows p w = record { held = held rows p; waiting = w; position = 1; is_trailin
 pub by_long : (o : OptionKind) → arg_by_long rules (long_name o) ≡ Some (rule o)
 by_long Name = refl
 by_long Depth = refl
+by_long From = refl
 by_long Weight = refl
 by_long Literals = refl
 by_long ListWeight = refl
 by_long Workers = refl
 by_long Share = refl
+by_long StartSign = refl
 by_long Make = refl
 
 -- ---- an option's name as a word
@@ -55,22 +57,26 @@ by_long Make = refl
 pub name_fault : (o : OptionKind) (rows : List Row) (p : Pending) → turn_fault top [] (at rows p idle) (written_name o) ≡ or_else (settle_fault rules false (held rows p)) []
 name_fault Name rows p = refl
 name_fault Depth rows p = refl
+name_fault From rows p = refl
 name_fault Weight rows p = refl
 name_fault Literals rows p = refl
 name_fault ListWeight rows p = refl
 name_fault Workers rows p = refl
 name_fault Share rows p = refl
+name_fault StartSign rows p = refl
 name_fault Make rows p = refl
 
 pub name_walked : (o : OptionKind) (rows : List Row) (p : Pending) → walked rules [] (at rows p idle) (written_name o) ≡ at (settled_rows rules p rows) (Some (long_name o, [])) (option (long_name o))
 unfolding walked
 name_walked Name rows p = refl
 name_walked Depth rows p = refl
+name_walked From rows p = refl
 name_walked Weight rows p = refl
 name_walked Literals rows p = refl
 name_walked ListWeight rows p = refl
 name_walked Workers rows p = refl
 name_walked Share rows p = refl
+name_walked StartSign rows p = refl
 name_walked Make rows p = refl
 
 -- ---- an option's name and its value in one word
@@ -79,11 +85,13 @@ pub both_fault : (o : OptionKind) (v : Word) (rows : List Row) (p : Pending)
     → turn_fault top [] (at rows p idle) (written_name o ++ 61 ∷ v) ≡ or_else (react_fault rules false (rule o) (v ∷ []) (held rows p)) []
 both_fault Name v rows p = refl
 both_fault Depth v rows p = refl
+both_fault From v rows p = refl
 both_fault Weight v rows p = refl
 both_fault Literals v rows p = refl
 both_fault ListWeight v rows p = refl
 both_fault Workers v rows p = refl
 both_fault Share v rows p = refl
+both_fault StartSign v rows p = refl
 both_fault Make v rows p = refl
 
 pub both_walked : (o : OptionKind) (v : Word) (rows : List Row) (p : Pending)
@@ -91,11 +99,13 @@ pub both_walked : (o : OptionKind) (v : Word) (rows : List Row) (p : Pending)
 unfolding walked
 both_walked Name v rows p = refl
 both_walked Depth v rows p = refl
+both_walked From v rows p = refl
 both_walked Weight v rows p = refl
 both_walked Literals v rows p = refl
 both_walked ListWeight v rows p = refl
 both_walked Workers v rows p = refl
 both_walked Share v rows p = refl
+both_walked StartSign v rows p = refl
 both_walked Make v rows p = refl
 
 -- ---- a value as a word
@@ -119,11 +129,13 @@ no_short (x ∷ xs) e = rw e refl
 pub value_fault : (o : OptionKind) (v : Word) (rows : List Row) → begins_with_hyphen v ≡ false → turn_fault top [] (awaits rows o) v ≡ []
 value_fault Name v rows e = rw (not_dashes v e) (rw (no_long v e) (rw (no_short v e) refl))
 value_fault Depth v rows e = rw (not_dashes v e) (rw (no_long v e) (rw (no_short v e) refl))
+value_fault From v rows e = rw (not_dashes v e) (rw (no_long v e) (rw (no_short v e) refl))
 value_fault Weight v rows e = rw (not_dashes v e) (rw (no_long v e) (rw (no_short v e) refl))
 value_fault Literals v rows e = rw (not_dashes v e) (rw (no_long v e) (rw (no_short v e) refl))
 value_fault ListWeight v rows e = rw (not_dashes v e) (rw (no_long v e) (rw (no_short v e) refl))
 value_fault Workers v rows e = rw (not_dashes v e) (rw (no_long v e) (rw (no_short v e) refl))
 value_fault Share v rows e = rw (not_dashes v e) (rw (no_long v e) (rw (no_short v e) refl))
+value_fault StartSign v rows e = rw (not_dashes v e) (rw (no_long v e) (rw (no_short v e) refl))
 value_fault Make v rows e = rw (not_dashes v e) (rw (no_long v e) (rw (no_short v e) refl))
 
 pub value_walked : (o : OptionKind) (v : Word) (rows : List Row) → begins_with_hyphen v ≡ false
@@ -131,11 +143,13 @@ pub value_walked : (o : OptionKind) (v : Word) (rows : List Row) → begins_with
 unfolding walked
 value_walked Name v rows e = rw (not_dashes v e) (rw (no_long v e) (rw (no_short v e) refl))
 value_walked Depth v rows e = rw (not_dashes v e) (rw (no_long v e) (rw (no_short v e) refl))
+value_walked From v rows e = rw (not_dashes v e) (rw (no_long v e) (rw (no_short v e) refl))
 value_walked Weight v rows e = rw (not_dashes v e) (rw (no_long v e) (rw (no_short v e) refl))
 value_walked Literals v rows e = rw (not_dashes v e) (rw (no_long v e) (rw (no_short v e) refl))
 value_walked ListWeight v rows e = rw (not_dashes v e) (rw (no_long v e) (rw (no_short v e) refl))
 value_walked Workers v rows e = rw (not_dashes v e) (rw (no_long v e) (rw (no_short v e) refl))
 value_walked Share v rows e = rw (not_dashes v e) (rw (no_long v e) (rw (no_short v e) refl))
+value_walked StartSign v rows e = rw (not_dashes v e) (rw (no_long v e) (rw (no_short v e) refl))
 value_walked Make v rows e = rw (not_dashes v e) (rw (no_long v e) (rw (no_short v e) refl))
 
 -- ---- words that are refused
@@ -158,22 +172,26 @@ pub name_waiting : (o : OptionKind) (rows : List Row) (p : Pending) (id : Text)
     → turn_fault top [] (at rows p (option id)) (written_name o) ≡ or_else (settle_fault rules false (held rows p)) []
 name_waiting Name rows p id = refl
 name_waiting Depth rows p id = refl
+name_waiting From rows p id = refl
 name_waiting Weight rows p id = refl
 name_waiting Literals rows p id = refl
 name_waiting ListWeight rows p id = refl
 name_waiting Workers rows p id = refl
 name_waiting Share rows p id = refl
+name_waiting StartSign rows p id = refl
 name_waiting Make rows p id = refl
 
 pub both_waiting : (o : OptionKind) (v : Word) (rows : List Row) (p : Pending) (id : Text)
     → turn_fault top [] (at rows p (option id)) (written_name o ++ 61 ∷ v) ≡ or_else (react_fault rules false (rule o) (v ∷ []) (held rows p)) []
 both_waiting Name v rows p id = refl
 both_waiting Depth v rows p id = refl
+both_waiting From v rows p id = refl
 both_waiting Weight v rows p id = refl
 both_waiting Literals v rows p id = refl
 both_waiting ListWeight v rows p id = refl
 both_waiting Workers v rows p id = refl
 both_waiting Share v rows p id = refl
+both_waiting StartSign v rows p id = refl
 both_waiting Make v rows p id = refl
 
 -- ---- a pending option is noted
@@ -181,32 +199,38 @@ both_waiting Make v rows p id = refl
 pub pending_fault : (o : OptionKind) (v : Word) (rows : List Row) → settle_fault rules false (held rows (Some (long_name o, v ∷ []))) ≡ use_fault false (rule o) (v ∷ []) rows
 pending_fault Name v rows = refl
 pending_fault Depth v rows = refl
+pending_fault From v rows = refl
 pending_fault Weight v rows = refl
 pending_fault Literals v rows = refl
 pending_fault ListWeight v rows = refl
 pending_fault Workers v rows = refl
 pending_fault Share v rows = refl
+pending_fault StartSign v rows = refl
 pending_fault Make v rows = refl
 
 pub pending_rows : (o : OptionKind) (v : Word) (rows : List Row) → settled_rows rules (Some (long_name o, v ∷ [])) rows ≡ used (rule o) (v ∷ []) rows
 pending_rows Name v rows = refl
 pending_rows Depth v rows = refl
+pending_rows From v rows = refl
 pending_rows Weight v rows = refl
 pending_rows Literals v rows = refl
 pending_rows ListWeight v rows = refl
 pending_rows Workers v rows = refl
 pending_rows Share v rows = refl
+pending_rows StartSign v rows = refl
 pending_rows Make v rows = refl
 
 -- an option without its value is refused
 pub empty_fault : (o : OptionKind) (rows : List Row) → settle_fault rules false (held rows (Some (long_name o, []))) ≡ InvalidValue ∷ []
 empty_fault Name rows = refl
 empty_fault Depth rows = refl
+empty_fault From rows = refl
 empty_fault Weight rows = refl
 empty_fault Literals rows = refl
 empty_fault ListWeight rows = refl
 empty_fault Workers rows = refl
 empty_fault Share rows = refl
+empty_fault StartSign rows = refl
 empty_fault Make rows = refl
 
 -- ---- a use of an option

@@ -3,9 +3,13 @@ use Rattle.std.specs.Prelude.{◌≡◌, ℕ, List, [], ◌∷◌, map, codes, O
 use Rattle.std.specs.String.{string_bytes}
 use Rattle.std.specs.Global.{Global}
 use Rattle.std.specs.declared.string.String.{String}
-use Rattle.darwin_options.specs.Settings.{OptionKind, Name, Depth, Weight, Literals, ListWeight, Workers, Share, Make, Word, Setting, AreSettings, IsNumberWithin, IsNumberOr, number_of, value_of}
+use Rattle.darwin_options.specs.Settings.{OptionKind, Name, Depth, From, Weight, Literals, ListWeight, Workers, Share, StartSign, Make, Word, Setting, AreSettings, IsNumberWithin, IsNumberOr, decimal_value, start_word, IsStartWord, value_of}
 use Rattle.szs_print.specs.Printable.{IsName}
 use Rattle.me_terms.specs.declared.bounds.Bounds.{Bounds}
+use Rattle.me_terms.specs.declared.bounds.Start.{Start}
+use Rattle.me_terms.specs.declared.bounds.Start.TheVariants.{Negative}
+use Rattle.me_terms.specs.declared.bounds.TheConstants.{MAX_DEPTH, MAX_WEIGHT, MAX_ENTRIES, MAX_LIST}
+use Rattle.darwin_options.specs.declared.options.TheConstants.{DEFAULT_DEPTH, DEFAULT_WEIGHT, DEFAULT_ENTRIES, DEFAULT_LIST, MAX_WORKERS, DEFAULT_WORKERS, MAX_SHARE, DEFAULT_SHARE, MAX_SEED}
 use Rattle.darwin_options.specs.declared.options.Options.{Options}
 
 -- There is a first word, the program's name, and those that follow it are the settings.
@@ -30,21 +34,33 @@ IsNoName (Some word) = ¬ IsName word
 -- The seed that is given, or none where none is.
 abbrev pub IsSeed : Option Word → Option ℕ → Type 0
 IsSeed None seed = seed ≡ None
-IsSeed (Some word) seed = IsNumberWithin 0 1000000000 word × (seed ≡ Some (number_of word))
+IsSeed (Some word) seed = IsNumberWithin 0 MAX_SEED word × (seed ≡ Some (decimal_value word))
 
--- Each bound is the number of its value, or its default where it has none.
+-- The start that is given, or the negative one where none is.
+abbrev pub IsStartOr : Option Word → Start → Type 0
+IsStartOr None start = start ≡ Negative
+IsStartOr (Some word) start = word ≡ start_word start
+
+-- A value is given, and it names no start.
+abbrev pub IsNoStart : Option Word → Type 0
+IsNoStart None = ⊥
+IsNoStart (Some word) = ¬ IsStartWord word
+
+-- Each bound is the number of its value, and the start that of its word, or the default where none is given.
 pub record AreBoundsOf (values : OptionKind → Option Word) (bounds : Bounds) : Type 0 where
-  pub depth : IsNumberOr 1 64 6 (values Depth) bounds.depth
-  pub weight : IsNumberOr 1 100000 1000 (values Weight) bounds.weight
-  pub literals : IsNumberOr 1 65535 2000 (values Literals) bounds.literals
-  pub list : IsNumberOr 1 50000000 10000000 (values ListWeight) bounds.list
+  pub depth : IsNumberOr 1 MAX_DEPTH DEFAULT_DEPTH (values Depth) bounds.depth
+  pub weight : IsNumberOr 1 MAX_WEIGHT DEFAULT_WEIGHT (values Weight) bounds.weight
+  pub literals : IsNumberOr 1 MAX_ENTRIES DEFAULT_ENTRIES (values Literals) bounds.literals
+  pub list : IsNumberOr 1 MAX_LIST DEFAULT_LIST (values ListWeight) bounds.list
+  pub start : IsStartOr (values StartSign) bounds.start
 
--- Each field of the options is the value that is given for it, or its default where none is.
+-- Each field of the options is the value that is given for it, or its default where none is. The bound of depth that is tried first is at most the bound of depth, which is its default.
 pub record AreOptionsOf (values : OptionKind → Option Word) (options : Options) : Type 0 where
   pub name : IsNameOr (values Name) options.name.items
   pub bounds : AreBoundsOf values options.bounds
-  pub workers : IsNumberOr 1 64 1 (values Workers) options.workers
-  pub share : IsNumberOr 0 16 10 (values Share) options.share
+  pub from : IsNumberOr 1 options.bounds.depth options.bounds.depth (values From) options.from
+  pub workers : IsNumberOr 1 MAX_WORKERS DEFAULT_WORKERS (values Workers) options.workers
+  pub share : IsNumberOr 0 MAX_SHARE DEFAULT_SHARE (values Share) options.share
   pub make : IsSeed (values Make) options.make
 
 -- The words are accepted, and ask for these options.

@@ -2,7 +2,7 @@
 use Rattle.std.specs.Prelude.{◌≡◌, ◌==◌, ◌&&◌, not, Bool, true, false, List, [], ◌∷◌, map, codes, Option, Some}
 use Rattle.std.specs.Global.{Global}
 use Rattle.std.specs.declared.string.String.{String}
-use Rattle.darwin_options.specs.Settings.{OptionKind, Name, Depth, Weight, Literals, ListWeight, Workers, Share, Make, Word, Setting, long_name, value_of, Distinguishes}
+use Rattle.darwin_options.specs.Settings.{OptionKind, Name, Depth, From, Weight, Literals, ListWeight, Workers, Share, StartSign, Make, Word, Setting, long_name, value_of, Distinguishes}
 use Rattle.std.specs.List.{list_any}
 use Rattle.std.specs.String.{string_bytes}
 use Rattle.clap.specs.Lexer.{is_long_word}
@@ -14,7 +14,7 @@ use Rattle.clap.specs.declared.builder.action.ArgAction.TheVariants.{Set}
 
 -- All options.
 abbrev pub all_options : List OptionKind
-all_options = Name ∷ Depth ∷ Weight ∷ Literals ∷ ListWeight ∷ Workers ∷ Share ∷ Make ∷ []
+all_options = Name ∷ Depth ∷ From ∷ Weight ∷ Literals ∷ ListWeight ∷ Workers ∷ Share ∷ StartSign ∷ Make ∷ []
 
 -- The argument of an option: its long name with one value.
 abbrev pub rule_of_option : OptionKind → Rule

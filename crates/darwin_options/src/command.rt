@@ -33,11 +33,13 @@ fn command<'a>(alloc: Global) -> Result<Command<'a>, AllocError>
         .disable_help_flag(true)
         .arg(option(alloc, "name"))?
         .arg(option(alloc, "depth"))?
+        .arg(option(alloc, "from"))?
         .arg(option(alloc, "weight"))?
         .arg(option(alloc, "literals"))?
         .arg(option(alloc, "list"))?
         .arg(option(alloc, "workers"))?
         .arg(option(alloc, "share"))?
+        .arg(option(alloc, "start"))?
         .arg(option(alloc, "make"))
 }
 

@@ -11,8 +11,8 @@ mod values;
 mod words;
 
 pub use error::WordsError;
-pub use options::Options;
+pub use options::{
+    DEFAULT_DEPTH, DEFAULT_ENTRIES, DEFAULT_LIST, DEFAULT_SHARE, DEFAULT_WEIGHT, DEFAULT_WORKERS,
+    MAX_DIGITS, MAX_SEED, MAX_SHARE, MAX_WORKERS, Options,
+};
 pub use words::read_words;
-
-#[cfg(test)]
-mod tests;

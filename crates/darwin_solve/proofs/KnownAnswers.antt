@@ -17,11 +17,12 @@ use Rattle.me_terms.specs.GroundInstances.{is_ground_term, are_ground_terms, IsG
 use Rattle.me_terms.specs.Validity.{IsValidClause, IsValid}
 use Rattle.me_terms.specs.TermEqualityLaws.{both_parts}
 use Rattle.me_terms.specs.Next.{Assert, Split, IsNext}
-use Rattle.me_terms.specs.Grown.{start, split_entry, IsGrown, started, asserted, went_left, went_right}
+use Rattle.me_terms.specs.Grown.{sign_of, start, split_entry, IsGrown, started, asserted, went_left, went_right}
 use Rattle.me_terms.specs.Outcome.{TreeOutcome, Closed, Sat, Met, both, HasOutcome, closes, is_exhausted, is_bounded, asserts, splits}
 use Rattle.me_terms.specs.Answer.{AnswerValue, Unsatisfiable, Satisfiable, GaveUp, answer_of, HasAnswer}
 use Rattle.me_terms.specs.declared.bounds.Bound.TheVariants as bound
 use Rattle.me_terms.specs.declared.bounds.Bounds.{Bounds}
+use Rattle.me_terms.specs.declared.bounds.Start.{Start}
 use Rattle.me_terms.specs.declared.entry.Kind.{Kind}
 use Rattle.me_terms.specs.declared.atom.Literal.{Literal}
 use Rattle.me_terms.specs.declared.atom.Pattern.{Pattern}
@@ -29,10 +30,10 @@ use Rattle.me_terms.specs.declared.atom.Pattern.TheVariants.{Any, Of}
 use Rattle.me_laws.proofs.Added.{add_either}
 use Rattle.me_laws.proofs.Grown.{grown}
 use Rattle.me_laws.proofs.Lists.{all_at}
-use Rattle.me_refutation.proofs.Known.{both_true, count_applied, all_known_under, clause_known}
-use Rattle.me_refutation.proofs.Sound.{IsSound, grown_sound}
-use Rattle.me_refutation.proofs.UnifierKnown.{unifier_known}
-use Rattle.me_refutation.proofs.Answered.{unsatisfiable_refuted}
+use Rattle.me_laws_refutation.proofs.Known.{both_true, count_applied, all_known_under, clause_known}
+use Rattle.me_laws_refutation.proofs.Sound.{IsSound, grown_sound}
+use Rattle.me_laws_refutation.proofs.UnifierKnown.{unifier_known}
+use Rattle.me_laws_refutation.proofs.Answered.{unsatisfiable_refuted}
 use Rattle.darwin_solve.specs.Evidence.{IsOverProblem}
 use Rattle.me_terms.specs.Known.{IsKnownInstance, IsKnownContext}
 
@@ -134,12 +135,12 @@ assert_known problem valid bounds context sound e next =
     let P : EntryValue → Type 0 = λ x. IsKnownPattern problem.signature x.atom in
     subst P (sym h.entry) (unified_known problem valid bounds context sound next.2.0 h.clause next.2.1 h.literal (positions_of (Some next.2.1) next.2.2) h.family h.clause_at h.literal_at h.unifier.unifier)
 
-start_known : (names : SignatureValue) (positive : Bool) (k : ℕ) (e : EntryValue) → StandsAt (start positive) k e → IsKnownPattern names e.atom
-start_known names positive zero e h = let P : EntryValue → Type 0 = λ x. IsKnownPattern names x.atom in subst P (same_Some (pseudo positive) e h) tt
-start_known names positive (suc k) e h = cc
+start_known : (names : SignatureValue) (begins : Start) (k : ℕ) (e : EntryValue) → StandsAt (start begins) k e → IsKnownPattern names e.atom
+start_known names begins zero e h = let P : EntryValue → Type 0 = λ x. IsKnownPattern names x.atom in subst P (same_Some (pseudo (sign_of begins)) e h) tt
+start_known names begins (suc k) e h = cc
 
-atoms_known : {problem : ProblemValue} {bounds : Bounds} {positive : Bool} {context : Context} → IsValid problem → IsGrown problem bounds positive context → (k : ℕ) (e : EntryValue) → StandsAt context k e → IsKnownPattern problem.signature e.atom
-atoms_known {problem} {bounds} {positive} valid started = start_known problem.signature positive
+atoms_known : {problem : ProblemValue} {bounds : Bounds} {context : Context} → IsValid problem → IsGrown problem bounds context → (k : ℕ) (e : EntryValue) → StandsAt context k e → IsKnownPattern problem.signature e.atom
+atoms_known {problem} {bounds} valid started = start_known problem.signature bounds.start
 atoms_known {problem} {bounds} valid (asserted {context = context} {e = e} h next) =
     added_known problem.signature context e (atoms_known valid h) (assert_known problem valid bounds context (grown_sound valid h) e next)
 atoms_known {problem} {bounds} valid (went_left {context = context} {l = l} {kind = kind} h next) =
@@ -151,7 +152,7 @@ literal_known : (names : SignatureValue) (Q : AtomValue → Type 0) (p : Pattern
 literal_known names Q Any g h = g
 literal_known names Q (Of a) g h = h
 
-context_known : {problem : ProblemValue} {bounds : Bounds} {positive : Bool} {context : Context} → IsValid problem → IsGrown problem bounds positive context → IsKnownContext problem.signature context
+context_known : {problem : ProblemValue} {bounds : Bounds} {context : Context} → IsValid problem → IsGrown problem bounds context → IsKnownContext problem.signature context
 context_known {problem} {context = context} valid h =
     let is = (grown h).0 in
     record {
@@ -160,48 +161,48 @@ context_known {problem} {context = context} valid h =
     }
 
 -- ---- answers
-GivesGrown : ProblemValue → Bounds → Bool → TreeOutcome → Type 0
-GivesGrown problem bounds positive (Sat context) = IsGrown problem bounds positive context
-GivesGrown problem bounds positive (Closed list) = Unit {0}
-GivesGrown problem bounds positive (Met b) = Unit {0}
+GivesGrown : ProblemValue → Bounds → TreeOutcome → Type 0
+GivesGrown problem bounds (Sat context) = IsGrown problem bounds context
+GivesGrown problem bounds (Closed list) = Unit {0}
+GivesGrown problem bounds (Met b) = Unit {0}
 
-both_give : (problem : ProblemValue) (bounds : Bounds) (positive : Bool) (left right : TreeOutcome) → GivesGrown problem bounds positive left → GivesGrown problem bounds positive right → GivesGrown problem bounds positive (both left right)
+both_give : (problem : ProblemValue) (bounds : Bounds) (left right : TreeOutcome) → GivesGrown problem bounds left → GivesGrown problem bounds right → GivesGrown problem bounds (both left right)
 unfolding GivesGrown
-both_give problem bounds positive (Sat context) right f g = f
-both_give problem bounds positive (Closed list) (Sat context) f g = g
-both_give problem bounds positive (Met b) (Sat context) f g = g
-both_give problem bounds positive (Met b) (Closed list) f g = tt
-both_give problem bounds positive (Met b) (Met c) f g = tt
-both_give problem bounds positive (Closed list) (Met c) f g = tt
-both_give problem bounds positive (Closed list) (Closed more) f g = tt
+both_give problem bounds (Sat context) right f g = f
+both_give problem bounds (Closed list) (Sat context) f g = g
+both_give problem bounds (Met b) (Sat context) f g = g
+both_give problem bounds (Met b) (Closed list) f g = tt
+both_give problem bounds (Met b) (Met c) f g = tt
+both_give problem bounds (Closed list) (Met c) f g = tt
+both_give problem bounds (Closed list) (Closed more) f g = tt
 
-gives : {problem : ProblemValue} {bounds : Bounds} {positive : Bool} {context : Context} {outcome : TreeOutcome} → IsGrown problem bounds positive context → HasOutcome problem bounds context outcome → GivesGrown problem bounds positive outcome
+gives : {problem : ProblemValue} {bounds : Bounds} {context : Context} {outcome : TreeOutcome} → IsGrown problem bounds context → HasOutcome problem bounds context outcome → GivesGrown problem bounds outcome
 unfolding GivesGrown
 gives h (closes next leaf) = tt
 gives h (is_exhausted next) = h
 gives h (is_bounded next) = tt
 gives h (asserts next later) = gives (asserted h next) later
-gives {problem} {bounds} {positive} h (splits {left = left} {right = right} next f g e) =
-    let P : TreeOutcome → Type 0 = λ o. GivesGrown problem bounds positive o in
-    subst P (sym e) (both_give problem bounds positive left right (gives (went_left h next) f) (gives (went_right h next) g))
+gives {problem} {bounds} h (splits {left = left} {right = right} next f g e) =
+    let P : TreeOutcome → Type 0 = λ o. GivesGrown problem bounds o in
+    subst P (sym e) (both_give problem bounds left right (gives (went_left h next) f) (gives (went_right h next) g))
 
 no_list : (test : Bool) (list : List InstanceValue) (context : Context) → Satisfiable context ≡ cond test (Unsatisfiable list) (GaveUp bound.List) → ⊥
 no_list true list context h = cc h
 no_list false list context h = cc h
 
-by_outcome : (problem : ProblemValue) (bounds : Bounds) (positive : Bool) (context : Context) (outcome : TreeOutcome) → GivesGrown problem bounds positive outcome → Satisfiable context ≡ answer_of bounds outcome → IsGrown problem bounds positive context
+by_outcome : (problem : ProblemValue) (bounds : Bounds) (context : Context) (outcome : TreeOutcome) → GivesGrown problem bounds outcome → Satisfiable context ≡ answer_of bounds outcome → IsGrown problem bounds context
 unfolding GivesGrown
-by_outcome problem bounds positive context (Sat other) h e =
+by_outcome problem bounds context (Sat other) h e =
     let same : context ≡ other = cc e in
-    let P : Context → Type 0 = λ x. IsGrown problem bounds positive x in
+    let P : Context → Type 0 = λ x. IsGrown problem bounds x in
     subst P (sym same) h
-by_outcome problem bounds positive context (Closed list) h e = absurd (no_list (nat_le (list_weight list) bounds.list) list context e)
-by_outcome problem bounds positive context (Met b) h e = cc e
+by_outcome problem bounds context (Closed list) h e = absurd (no_list (nat_le (list_weight list) bounds.list) list context e)
+by_outcome problem bounds context (Met b) h e = cc e
 
-pub answer_over : (problem : ProblemValue) (bounds : Bounds) (positive : Bool) → IsValid problem → (reply : AnswerValue) → HasAnswer problem bounds positive reply → IsOverProblem problem reply
-answer_over problem bounds positive valid (Unsatisfiable list) h =
-    let refuted = (unsatisfiable_refuted problem bounds positive list valid h).0 in
+pub answer_over : (problem : ProblemValue) (bounds : Bounds) → IsValid problem → (reply : AnswerValue) → HasAnswer problem bounds reply → IsOverProblem problem reply
+answer_over problem bounds valid (Unsatisfiable list) h =
+    let refuted = (unsatisfiable_refuted problem bounds list valid h).0 in
     λ k d lt. instance_known problem valid (get_or list k d) (refuted.instances k d lt)
-answer_over problem bounds positive valid (Satisfiable context) h =
-    context_known valid (by_outcome problem bounds positive context h.0 (gives started h.1) h.2)
-answer_over problem bounds positive valid (GaveUp b) h = tt
+answer_over problem bounds valid (Satisfiable context) h =
+    context_known valid (by_outcome problem bounds context h.0 (gives started h.1) h.2)
+answer_over problem bounds valid (GaveUp b) h = tt

@@ -10,7 +10,7 @@ use Rattle.me_terms.specs.InducedModel.{IsModel}
 use Rattle.me_terms.specs.Answer.{AnswerValue, Unsatisfiable, Satisfiable, GaveUp}
 use Rattle.me_terms.specs.declared.bounds.Bound.TheVariants as bound
 use Rattle.me_terms.specs.declared.bounds.Bounds.{Bounds}
-use Rattle.me_refutation.specs.Refutation.{ClosedIsRefutedBy}
+use Rattle.me_laws_refutation.specs.Refutation.{ClosedIsRefutedBy}
 
 -- With Unsatisfiable comes a list of ground instances of the problem's clauses that no choice of truth values makes true, within the list bound.
 abbrev pub HasRefutation : ProblemValue → Bounds → AnswerValue → Type 0

@@ -1,9 +1,9 @@
 //! The answer to a problem.
-ghost use Rattle.std.specs.Prelude.{false, IfOk};
+ghost use Rattle.std.specs.Prelude.{IfOk};
 ghost use Rattle.me_terms.specs.Validity.{IsLawful, IsValid};
 ghost use Rattle.me_terms.specs.Answer.{HasAnswer};
 ghost use Rattle.me_terms.specs.AnswerViews.{answer_value};
-ghost use Rattle.me_counting.specs.FunctionFree.{IsFunctionFree, IsRoomy};
+ghost use Rattle.me_laws_counting.specs.FunctionFree.{IsFunctionFree, IsRoomy};
 ghost use Rattle.darwin_solve.specs.Evidence.{HasModel, HasRefutation, IsOverProblem, MeetsOnlyList};
 
 use branch_core::{Records, assemble};
@@ -20,7 +20,7 @@ use std::alloc::{AllocError, Global};
 pub fn solve_alone(alloc: Global, problem: &Problem, bounds: &Bounds) -> Result<Answer, AllocError>
     requires valid { IsValid problem.now }
     requires bounds { IsLawful bounds.now }
-    ensures answer { IfOk result (λ answer. HasAnswer problem.now bounds.now false (answer_value answer)) }
+    ensures answer { IfOk result (λ answer. HasAnswer problem.now bounds.now (answer_value answer)) }
     ensures refuted { IfOk result (λ answer. HasRefutation problem.now bounds.now (answer_value answer)) }
     ensures model { IfOk result (λ answer. HasModel problem.now (answer_value answer)) }
     ensures function_free { IfOk result (λ answer. IsFunctionFree problem.now → IsRoomy problem.now bounds.now → MeetsOnlyList (answer_value answer)) }

@@ -16,12 +16,12 @@ use Rattle.me_terms.specs.declared.atom.Literal.{Literal}
 use Rattle.me_laws.proofs.Backed.{grown_backed}
 use Rattle.me_laws.proofs.Lists.{EachOf, each_map, each_append}
 use Rattle.me_laws.proofs.OutcomeDetermined.{closing_unique}
-use Rattle.me_existence.proofs.Outcomes.{leaf_list}
-use Rattle.me_refutation.proofs.Sound.{grown_sound}
-use Rattle.me_refutation.proofs.Demands.{IsRight, IsRightBelow}
-use Rattle.me_refutation.proofs.Asked.{AskedFacts, asked_facts}
-use Rattle.me_refutation.proofs.Leaf.{closing_facts}
-use Rattle.ground_refutation.specs.Queue.{same_demand, Completes, IsListing, IsGrownOver, IsAskedFor}
+use Rattle.me_laws_existence.proofs.Outcomes.{leaf_list}
+use Rattle.me_laws_refutation.proofs.Sound.{grown_sound}
+use Rattle.me_laws_refutation.proofs.Demands.{IsRight, IsRightBelow}
+use Rattle.me_laws_refutation.proofs.Asked.{AskedFacts, asked_facts}
+use Rattle.me_laws_refutation.proofs.Leaf.{closing_facts}
+use Rattle.ground_refutation.specs.Queue.{same_demand, Completes, IsListing, IsGrownOver, IsDemanded}
 use Rattle.ground_refutation.specs.Work.{longest, work, work_all}
 use Rattle.ground_refutation.proofs.Listing.{one_more, new_weight, one_weight}
 use Rattle.ground_refutation.proofs.Steps.{was_not_asked, all_ground_by, Next, next}
@@ -56,7 +56,7 @@ module _ (problem : ProblemValue) (valid : IsValid problem) (context : Context) 
   after : (list : List InstanceValue) → Completes problem context asked (d ∷ waiting) listed list → After list
   after list h = next problem context asked waiting listed list d c place tuple (was_not_asked d asked is_new) asserted h
 
-  asked_by : (literals : List Literal) → IsAskedInstance problem context c place tuple d.1 literals → IsAskedFor problem context c place ks d.1 literals
+  asked_by : (literals : List Literal) → IsAskedInstance problem context c place tuple d.1 literals → IsDemanded problem context c place ks d.1 literals
   asked_by literals q = record {
     tuple = tuple;
     positions_are = are;
@@ -64,11 +64,11 @@ module _ (problem : ProblemValue) (valid : IsValid problem) (context : Context) 
     ground = all_ground_by problem d.1.atom.args right.ground;
   }
 
-  pub asked_for : (list : List InstanceValue) → Completes problem context asked (d ∷ waiting) listed list → (literals : List Literal) × IsAskedFor problem context c place ks d.1 literals
+  pub asked_for : (list : List InstanceValue) → Completes problem context asked (d ∷ waiting) listed list → (literals : List Literal) × IsDemanded problem context c place ks d.1 literals
   asked_for list h = let n = after list h in (n.literals, asked_by n.literals n.instance)
 
   facts : (literals : List Literal) → IsAskedInstance problem context c place tuple d.1 literals → AskedFacts problem context d.0 c place tuple d.1 literals
-  facts literals q = asked_facts problem valid grown.0 context (grown_sound valid grown.2) d.0 c place tuple d.1 literals asserted q right
+  facts literals q = asked_facts problem valid grown.0 context (grown_sound valid grown.1) d.0 c place tuple d.1 literals asserted q right
 
   pub is_skip : (list : List InstanceValue) → Completes problem context asked (d ∷ waiting) listed list → place ≤ length tuple
   is_skip list h =
@@ -79,14 +79,14 @@ module _ (problem : ProblemValue) (valid : IsValid problem) (context : Context) 
       skipped tuple place (omega (arith, long, lt))
 
   -- where the instance alone is too heavy, so is the list
-  pub too_heavy_alone : (bound weight : ℕ) → IsListing bound listed weight → ((literals : List Literal) → IsAskedFor problem context c place ks d.1 literals → bound < literals_weight literals) → (list : List InstanceValue) → Completes problem context asked (d ∷ waiting) listed list → bound < list_weight list
+  pub too_heavy_alone : (bound weight : ℕ) → IsListing bound listed weight → ((literals : List Literal) → IsDemanded problem context c place ks d.1 literals → bound < literals_weight literals) → (list : List InstanceValue) → Completes problem context asked (d ∷ waiting) listed list → bound < list_weight list
   too_heavy_alone bound weight listing heavy list h =
       let n = after list h in
       let over = heavy n.literals (asked_by n.literals n.instance) in
       let least = one_weight listed (instance_at c n.literals) n.rest list listing.distinct n.is_list in
       omega (arith, over, least)
 
-  module _ (ls : List Literal) (exact : (literals : List Literal) → IsAskedFor problem context c place ks d.1 literals → ls ≡ literals) where
+  module _ (ls : List Literal) (exact : (literals : List Literal) → IsDemanded problem context c place ks d.1 literals → ls ≡ literals) where
     same_list : (list : List InstanceValue) (n : After list) → list ≡ first_occurrences (listed ++ instance_at c ls ∷ n.rest)
     same_list list n = n.is_list ∙ ap (λ (ms : List Literal). first_occurrences (listed ++ instance_at c ms ∷ n.rest)) (sym (exact n.literals (asked_by n.literals n.instance)))
 
@@ -130,11 +130,11 @@ module _ (problem : ProblemValue) (valid : IsValid problem) (context : Context) 
 -- ---- the beginning
 module _ (problem : ProblemValue) (valid : IsValid problem) (context : Context) (grown : IsGrownOver problem context) (c : ℕ) (tuple : List ℕ) (close : IsClose problem context c tuple) where
   pub leaf_exists : (list : List InstanceValue) × IsLeafList problem context c tuple list
-  leaf_exists = leaf_list problem grown.0 context (grown_backed grown.2) c tuple close
+  leaf_exists = leaf_list problem grown.0 context (grown_backed grown.1) c tuple close
 
   pub closing_rights : (ks : List (Option ℕ)) → ks ≡ positions_of None tuple → (ls : List Literal) → IsClosingInstance problem context c tuple ls → EachOf (IsRight problem context) (demands ls ks)
   closing_rights ks are ls closing =
-      let f = closing_facts problem valid grown.0 context (grown_sound valid grown.2) c tuple ls close closing in
+      let f = closing_facts problem valid grown.0 context (grown_sound valid grown.1) c tuple ls close closing in
       let each = each_map (IsRightBelow problem context (length context)) (IsRight problem context) (λ e k. k.1) (demands ls (positions_of None tuple)) f.demands_right in
       let P : List (Option ℕ) → Type 0 = λ os. EachOf (IsRight problem context) (demands ls os) in
       subst P (sym are) each

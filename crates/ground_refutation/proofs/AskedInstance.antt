@@ -16,7 +16,7 @@ use Rattle.me_laws.proofs.Renaming as names
 use Rattle.me_laws.proofs.Renaming.{Each, agree_variables_all, variables_agree_all}
 use Rattle.me_laws.proofs.NoContradiction.{ground_atom}
 use Rattle.me_laws.proofs.OutcomeDetermined.{has_decided, each_has, lacks}
-use Rattle.me_existence.proofs.Splits.{contains_decided}
+use Rattle.me_laws_existence.proofs.Splits.{contains_decided}
 use Rattle.me_unify.specs.Equations.{Equation, equation, SolvesOne, IsSolvable, IsMostGeneral}
 use Rattle.me_unify.specs.ClauseEquations.{equations_from}
 use Rattle.ground_refutation.specs.AskedEquations.{asked_equations}

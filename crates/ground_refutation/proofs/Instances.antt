@@ -14,7 +14,7 @@ use Rattle.me_terms.specs.declared.atom.Literal.{Literal}
 use Rattle.me_unify.specs.Equations.{Equation, IsSolvable, IsMostGeneral}
 use Rattle.me_unify.specs.ClauseEquations.{equations_from}
 use Rattle.ground_refutation.specs.AskedEquations.{asked_equations}
-use Rattle.ground_refutation.specs.Queue.{IsAskedFor}
+use Rattle.ground_refutation.specs.Queue.{IsDemanded}
 use Rattle.ground_refutation.proofs.Solving.{is_unifier, is_most_general, is_solvable}
 use Rattle.ground_refutation.proofs.AskedInstance as asked
 
@@ -55,7 +55,7 @@ module _ (problem : ProblemValue) (context : Context) (c : ℕ) (ks : List (Opti
       }
 
 -- ---- the instance of an asserted entry
-module _ (problem : ProblemValue) (context : Context) (c place : ℕ) (ks : List (Option ℕ)) (g : Literal) (ls : List Literal) (own : Literal) (literals : List Literal) (h : IsAskedFor problem context c place ks g literals) (those : (x : ClauseValue) → ClauseAt problem c x → ls ≡ x.literals) (is : own ≡ get_or ls place own) where
+module _ (problem : ProblemValue) (context : Context) (c place : ℕ) (ks : List (Option ℕ)) (g : Literal) (ls : List Literal) (own : Literal) (literals : List Literal) (h : IsDemanded problem context c place ks g literals) (those : (x : ClauseValue) → ClauseAt problem c x → ls ≡ x.literals) (is : own ≡ get_or ls place own) where
   abbrev q : IsAskedInstance problem context c place h.tuple g literals
   q = h.instance
 
@@ -81,7 +81,7 @@ module _ (problem : ProblemValue) (context : Context) (c place : ℕ) (ks : List
       let P : List Equation → Type 0 = λ qs. IsMostGeneral qs v in
       ap (λ (ms : List Literal). instance_of v (λ x. constant problem.c0) ms) same_literals ∙ asked.asked_is problem context c place h.tuple g literals q h.ground v (subst P same_equations most)
 
-pub place_within : (problem : ProblemValue) (context : Context) (c place : ℕ) (ks : List (Option ℕ)) (g : Literal) (ls literals : List Literal) → IsAskedFor problem context c place ks g literals → ((x : ClauseValue) → ClauseAt problem c x → ls ≡ x.literals) → place < length ls
+pub place_within : (problem : ProblemValue) (context : Context) (c place : ℕ) (ks : List (Option ℕ)) (g : Literal) (ls literals : List Literal) → IsDemanded problem context c place ks g literals → ((x : ClauseValue) → ClauseAt problem c x → ls ≡ x.literals) → place < length ls
 place_within problem context c place ks g ls literals h those =
     let P : List Literal → Type 0 = λ ms. place < length ms in
     subst P (sym (those h.instance.clause h.instance.clause_at)) (slice_get_within h.instance.clause.literals place h.instance.literal h.instance.literal_at)

@@ -6,6 +6,5 @@ pub mod Listing
 pub mod Work
 pub mod Weights
 pub mod Loops
-pub mod Plain
 pub mod Steps
 pub mod Answering

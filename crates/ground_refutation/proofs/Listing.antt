@@ -1,5 +1,5 @@
 -- Lists of instances in which each stands once: what one instance more does to first occurrences and to the weight.
-use Rattle.std.proofs.Common.{◌≡◌, ℕ, ◌+◌, ◌≤◌, Bool, true, false, not, ◌||◌, cond, ◌⊎◌, inl, inr, List, [], ◌∷◌, ◌++◌, append_assoc, refl, sym, subst, ap, ◌∙◌, arith}
+use Rattle.std.proofs.Common.{◌≡◌, ℕ, ◌+◌, ◌≤◌, Bool, true, false, ◌||◌, cond, inl, inr, List, [], ◌∷◌, ◌++◌, append_assoc, refl, sym, subst, ap, ◌∙◌, arith}
 use Rattle.std.specs.List.{filter, list_any}
 use Rattle.std.proofs.lemmas.List.Elements.{filter-append}
 use Rattle.std.proofs.lemmas.List.Folds.{list_any-append}
@@ -9,42 +9,12 @@ use Rattle.me_terms.specs.Measures.{literals_weight, list_weight}
 use Rattle.me_terms.specs.Values.{InstanceValue}
 use Rattle.me_terms.specs.FirstOccurrences.{same_instance, first_occurrences}
 use Rattle.me_terms.specs.InstanceEqualityLaws.{instance_sound, instance_itself}
-use Rattle.ground_refutation.specs.Queue.{AreDistinct, IsListing}
-
-bool_cases : (b : Bool) → (b ≡ true) ⊎ (b ≡ false)
-bool_cases true = inl refl
-bool_cases false = inr refl
+use Rattle.instance_lists.proofs.FirstOccurrences.{bool_cases, filter_swap, filter_again, others}
+use Rattle.ground_refutation.specs.Queue.{AreDistinctInstances, IsListing}
 
 or_false : (a b : Bool) → (a || b) ≡ false → (a ≡ false) × (b ≡ false)
 or_false true b h = cc
 or_false false b h = (refl, h)
-
--- all but the instances equal to i
-abbrev others : InstanceValue → InstanceValue → Bool
-others i j = not (same_instance i j)
-
--- ---- filters
-filter_swap : (p q : InstanceValue → Bool) (xs : List InstanceValue) → filter p (filter q xs) ≡ filter q (filter p xs)
-filter_swap p q [] = refl
-filter_swap p q (x ∷ xs) =
-    elim (bool_cases (p x)) as (λ _. filter p (filter q (x ∷ xs)) ≡ filter q (filter p (x ∷ xs))) [
-      | inl hp ↦ elim (bool_cases (q x)) as (λ _. filter p (filter q (x ∷ xs)) ≡ filter q (filter p (x ∷ xs))) [
-        | inl hq ↦ simp (hp, hq) (λ i. x ∷ filter_swap p q xs i)
-        | inr hq ↦ simp (hp, hq) (filter_swap p q xs)
-      ]
-      | inr hp ↦ elim (bool_cases (q x)) as (λ _. filter p (filter q (x ∷ xs)) ≡ filter q (filter p (x ∷ xs))) [
-        | inl hq ↦ simp (hp, hq) (filter_swap p q xs)
-        | inr hq ↦ simp (hp, hq) (filter_swap p q xs)
-      ]
-    ]
-
-filter_again : (p : InstanceValue → Bool) (xs : List InstanceValue) → filter p (filter p xs) ≡ filter p xs
-filter_again p [] = refl
-filter_again p (x ∷ xs) =
-    elim (bool_cases (p x)) as (λ _. filter p (filter p (x ∷ xs)) ≡ filter p (x ∷ xs)) [
-      | inl hp ↦ simp hp (λ i. x ∷ filter_again p xs i)
-      | inr hp ↦ simp hp (filter_again p xs)
-    ]
 
 -- what stands nowhere is not filtered away
 filter_none : (i : InstanceValue) (xs : List InstanceValue) → list_any (same_instance i) xs ≡ false → filter (others i) xs ≡ xs
@@ -91,7 +61,7 @@ not_same x i h =
 both_false : (a b : Bool) → a ≡ false → b ≡ false → (a || b) ≡ false
 both_false a b f g = λ n. f n || g n
 
-pub distinct_more : (i : InstanceValue) (xs : List InstanceValue) → AreDistinct xs → list_any (same_instance i) xs ≡ false → AreDistinct (xs ++ i ∷ [])
+pub distinct_more : (i : InstanceValue) (xs : List InstanceValue) → AreDistinctInstances xs → list_any (same_instance i) xs ≡ false → AreDistinctInstances (xs ++ i ∷ [])
 distinct_more i [] d h = (refl, tt)
 distinct_more i (x ∷ xs) d h =
     let parts = or_false (same_instance i x) (list_any (same_instance i) xs) h in
@@ -99,7 +69,7 @@ distinct_more i (x ∷ xs) d h =
     (list_any-append (same_instance x) xs (i ∷ []) ∙ both_false (list_any (same_instance x) xs) (list_any (same_instance x) (i ∷ [])) d.0 last, distinct_more i xs d.1 parts.1)
 
 -- distinct instances stand in front of the first occurrences
-pub distinct_front : (xs zs : List InstanceValue) → AreDistinct xs → (ys : List InstanceValue) × (first_occurrences (xs ++ zs) ≡ xs ++ ys)
+pub distinct_front : (xs zs : List InstanceValue) → AreDistinctInstances xs → (ys : List InstanceValue) × (first_occurrences (xs ++ zs) ≡ xs ++ ys)
 distinct_front [] zs d = (first_occurrences zs, refl)
 distinct_front (x ∷ xs) zs d =
     let later = distinct_front xs zs d.1 in
@@ -107,7 +77,7 @@ distinct_front (x ∷ xs) zs d =
     ap (filter (others x)) later.1 ∙ (filter-append (others x) xs later.0 ∙ ap (λ (ws : List InstanceValue). ws ++ filter (others x) later.0) (filter_none x xs d.0)) in
     (filter (others x) later.0, λ n. x ∷ inner n)
 
-pub distinct_first : (xs : List InstanceValue) → AreDistinct xs → first_occurrences xs ≡ xs
+pub distinct_first : (xs : List InstanceValue) → AreDistinctInstances xs → first_occurrences xs ≡ xs
 distinct_first [] d = refl
 distinct_first (x ∷ xs) d = let inner = ap (filter (others x)) (distinct_first xs d.1) ∙ filter_none x xs d.0 in λ n. x ∷ inner n
 
@@ -141,21 +111,21 @@ member_weight i (x ∷ xs) h =
     ]
 
 -- the list weighs what is listed, at least
-pub front_weight : (xs zs list : List InstanceValue) → AreDistinct xs → list ≡ first_occurrences (xs ++ zs) → list_weight xs ≤ list_weight list
+pub front_weight : (xs zs list : List InstanceValue) → AreDistinctInstances xs → list ≡ first_occurrences (xs ++ zs) → list_weight xs ≤ list_weight list
 front_weight xs zs list d h =
     let front = distinct_front xs zs d in
     let whole : list_weight list ≡ list_weight xs + list_weight front.0 = ap list_weight (h ∙ front.1) ∙ weight_append xs front.0 in
     omega (arith, whole)
 
 -- and an instance more where that is new
-pub new_weight : (xs : List InstanceValue) (i : InstanceValue) (zs list : List InstanceValue) → AreDistinct xs → list_any (same_instance i) xs ≡ false → list ≡ first_occurrences (xs ++ i ∷ zs) → list_weight xs + literals_weight i.literals ≤ list_weight list
+pub new_weight : (xs : List InstanceValue) (i : InstanceValue) (zs list : List InstanceValue) → AreDistinctInstances xs → list_any (same_instance i) xs ≡ false → list ≡ first_occurrences (xs ++ i ∷ zs) → list_weight xs + literals_weight i.literals ≤ list_weight list
 new_weight xs i zs list d lack h =
     let turned : list ≡ first_occurrences ((xs ++ i ∷ []) ++ zs) = h ∙ ap first_occurrences (sym (cons_append xs i zs)) in
     let least = front_weight (xs ++ i ∷ []) zs list (distinct_more i xs d lack) turned in
     let more = weight_more xs i in omega (arith, least, more)
 
 -- no instance is heavier than the list
-pub one_weight : (xs : List InstanceValue) (i : InstanceValue) (zs list : List InstanceValue) → AreDistinct xs → list ≡ first_occurrences (xs ++ i ∷ zs) → literals_weight i.literals ≤ list_weight list
+pub one_weight : (xs : List InstanceValue) (i : InstanceValue) (zs list : List InstanceValue) → AreDistinctInstances xs → list ≡ first_occurrences (xs ++ i ∷ zs) → literals_weight i.literals ≤ list_weight list
 one_weight xs i zs list d h =
     elim (bool_cases (list_any (same_instance i) xs)) as (λ _. literals_weight i.literals ≤ list_weight list) [
       | inl e ↦ let least = front_weight xs (i ∷ zs) list d h in let own = member_weight i xs e in omega (arith, least, own)

@@ -1,5 +1,5 @@
 -- What the list of a leaf shows of the valuations that agree with the splits on its branch.
-use Rattle.std.specs.Prelude.{ℕ, Bool, List}
+use Rattle.std.specs.Prelude.{ℕ, List}
 use Rattle.std.specs.List.{All, Any}
 use Rattle.me_terms.specs.Values.{ProblemValue, InstanceValue}
 use Rattle.me_terms.specs.Context.{Context}
@@ -9,8 +9,8 @@ use Rattle.me_terms.specs.Refuted.{Valuation, IsFalseUnder}
 use Rattle.me_terms.specs.LeafList.{IsLeafList}
 use Rattle.me_terms.specs.Grown.{IsGrown}
 use Rattle.me_terms.specs.declared.bounds.Bounds.{Bounds}
-use Rattle.me_refutation.proofs.Splits.{AreSplitsTrue}
+use Rattle.me_laws_refutation.proofs.Splits.{AreSplitsTrue}
 
 -- Where a valuation makes each split entry of a closed leaf true at its instance by c0, some instance of the leaf's list has only false literals.
 abbrev pub LeafIsRefuted : Type 0
-LeafIsRefuted = (problem : ProblemValue) (bounds : Bounds) (positive : Bool) (context : Context) (c : ℕ) (tuple : List ℕ) (list : List InstanceValue) (value : Valuation) → IsValid problem → IsGrown problem bounds positive context → IsClose problem context c tuple → IsLeafList problem context c tuple list → AreSplitsTrue problem value context → Any (λ i. All (IsFalseUnder value) i.literals) list
+LeafIsRefuted = (problem : ProblemValue) (bounds : Bounds) (context : Context) (c : ℕ) (tuple : List ℕ) (list : List InstanceValue) (value : Valuation) → IsValid problem → IsGrown problem bounds context → IsClose problem context c tuple → IsLeafList problem context c tuple list → AreSplitsTrue problem value context → Any (λ i. All (IsFalseUnder value) i.literals) list

@@ -15,7 +15,7 @@ use Rattle.me_terms.specs.LeafList.{Demand, Adds}
 use Rattle.me_terms.specs.declared.atom.Literal.{Literal}
 use Rattle.me_terms.specs.declared.bounds.Bounds.{Bounds}
 use Rattle.me_laws.proofs.Lists.{EachOf}
-use Rattle.me_refutation.proofs.Demands.{IsRight}
+use Rattle.me_laws_refutation.proofs.Demands.{IsRight}
 
 -- The demands that wait, worked in turn after those that were asked, make a list of the instances that are listed. The asked ones are in the order in which they were asked.
 abbrev pub Completes : ProblemValue → Context → List Demand → List Demand → List InstanceValue → List InstanceValue → Type 0
@@ -23,13 +23,13 @@ Completes problem context asked waiting listed list =
     (more : List InstanceValue) × Adds problem context (reverse asked) waiting more × (list ≡ first_occurrences (listed ++ more))
 
 -- No instance stands twice.
-abbrev pub AreDistinct : List InstanceValue → Type 0
-AreDistinct [] = Unit {0}
-AreDistinct (i ∷ later) = (list_any (same_instance i) later ≡ false) × AreDistinct later
+abbrev pub AreDistinctInstances : List InstanceValue → Type 0
+AreDistinctInstances [] = Unit {0}
+AreDistinctInstances (i ∷ later) = (list_any (same_instance i) later ≡ false) × AreDistinctInstances later
 
 -- The instances are listed once each, weigh so much, and no more than the bound.
 pub record IsListing (bound : ℕ) (listed : List InstanceValue) (weight : ℕ) : Type 0 where
-  pub distinct : AreDistinct listed
+  pub distinct : AreDistinctInstances listed
   pub weighed : weight ≡ list_weight listed
   pub light : weight ≤ bound
 
@@ -38,16 +38,16 @@ pub record IsUnderway (problem : ProblemValue) (context : Context) (bound : ℕ)
   pub listing : IsListing bound listed weight
   pub right : EachOf (IsRight problem context) waiting
 
--- The context is grown over the problem, with some bounds and either sign.
+-- The context is grown over the problem, within some bounds.
 abbrev pub IsGrownOver : ProblemValue → Context → Type 0
-IsGrownOver problem context = (bounds : Bounds) × (positive : Bool) × IsGrown problem bounds positive context
+IsGrownOver problem context = (bounds : Bounds) × IsGrown problem bounds context
 
 -- The test of equality of demands.
 abbrev pub same_demand : Demand → Demand → Bool
 same_demand d f = eqb d.0 f.0 && (beq d.1.positive f.1.positive && same_atom d.1.atom f.1.atom)
 
 -- The literals are those of the instance of clause c by which an entry, asserted at that place with these positions, holds at a ground literal.
-pub record IsAskedFor (problem : ProblemValue) (context : Context) (c place : ℕ) (positions : List (Option ℕ)) (asked : Literal) (literals : List Literal) : Type 0 where
+pub record IsDemanded (problem : ProblemValue) (context : Context) (c place : ℕ) (positions : List (Option ℕ)) (asked : Literal) (literals : List Literal) : Type 0 where
   pub tuple : List ℕ
   pub positions_are : positions ≡ positions_of (Some place) tuple
   pub instance : IsAskedInstance problem context c place tuple asked literals

@@ -7,7 +7,7 @@ ghost use Rattle.me_terms.specs.Values.{ClauseValue};
 ghost use Rattle.me_terms.specs.Close.{IsClose};
 ghost use Rattle.me_terms.specs.ListedInstances.{IsClosingInstance};
 ghost use Rattle.me_terms.specs.declared.atom.Literal.{Literal};
-ghost use Rattle.ground_refutation.specs.Queue.{IsAskedFor};
+ghost use Rattle.ground_refutation.specs.Queue.{IsDemanded};
 
 use crate::instance::{Weighed, instance_within};
 use crate::places::bind_all;
@@ -60,11 +60,11 @@ pub(crate) fn asked_instance<V: View>(
     bound: u64,
 ) -> Result<Weighed, ListError>
     requires valid { IsValid problem.now }
-    requires asked { (literals : List Literal) × IsAskedFor problem.now (V.context view.now) clause place positions.now asked.now literals }
+    requires asked { (literals : List Literal) × IsDemanded problem.now (V.context view.now) clause place positions.now asked.now literals }
     requires bound { bound < GREATEST_U64 }
-    ensures exact { IfOk result (λ weighed. (literals : List Literal) → IsAskedFor problem.now (V.context view.now) clause place positions.now asked.now literals → weighed.literals.items ≡ literals) }
+    ensures exact { IfOk result (λ weighed. (literals : List Literal) → IsDemanded problem.now (V.context view.now) clause place positions.now asked.now literals → weighed.literals.items ≡ literals) }
     ensures weight { IfOk result (λ weighed. weighed.weight ≡ literals_weight weighed.literals.items) }
-    ensures heavy { IfErr result (λ error. error ≡ ListError.TooHeavy → (literals : List Literal) → IsAskedFor problem.now (V.context view.now) clause place positions.now asked.now literals → bound < literals_weight literals) }
+    ensures heavy { IfErr result (λ error. error ≡ ListError.TooHeavy → (literals : List Literal) → IsDemanded problem.now (V.context view.now) clause place positions.now asked.now literals → bound < literals_weight literals) }
 {
     let literals = literals_of(problem, clause);
     let own = &literals[place as usize];

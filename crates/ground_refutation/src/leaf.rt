@@ -8,7 +8,8 @@ ghost use Rattle.me_terms.specs.Values.{InstanceValue};
 ghost use Rattle.me_terms.specs.Measures.{list_weight};
 ghost use Rattle.me_terms.specs.Close.{IsClose};
 ghost use Rattle.me_terms.specs.LeafList.{IsAsserted, IsLeafList};
-ghost use Rattle.me_refutation.proofs.Demands.{IsRight};
+ghost use Rattle.me_terms.specs.declared.bounds.TheConstants.{MAX_LIST};
+ghost use Rattle.me_laws_refutation.proofs.Demands.{IsRight};
 ghost use Rattle.ground_refutation.specs.Queue.{Completes, IsUnderway, IsGrownOver, same_demand};
 ghost use Rattle.ground_refutation.specs.Work.{longest, work, work_all};
 
@@ -32,7 +33,7 @@ fn begin<V: View>(
     bound: u64,
 ) -> Result<State, ListError>
     requires valid { IsValid problem.now }
-    requires bound { bound ≤ 50000000 }
+    requires bound { bound ≤ MAX_LIST }
     requires close { IsClose problem.now (V.context view.now) clause tuple.now.items }
     requires grown { IsGrownOver problem.now (V.context view.now) }
     ensures underway { IfOk result (λ state. IsUnderway problem.now (V.context view.now) bound state.waiting.items state.listing.instances.keys state.listing.weight) }
@@ -67,7 +68,7 @@ fn answer<V: View>(
     bound: u64,
 ) -> Result<(), ListError>
     requires valid { IsValid problem.now }
-    requires bound { bound ≤ 50000000 }
+    requires bound { bound ≤ MAX_LIST }
     requires grown { IsGrownOver problem.now (V.context view.now) }
     requires asserted { IsAsserted (V.context view.now) demand.0 origin.clause origin.place origin.tuple.now.items }
     requires is_new { list_any (same_demand demand) state.old.asked.keys ≡ false }
@@ -117,7 +118,7 @@ fn work<V: View>(
     bound: u64,
 ) -> Result<(), ListError>
     requires valid { IsValid problem.now }
-    requires bound { bound ≤ 50000000 }
+    requires bound { bound ≤ MAX_LIST }
     requires grown { IsGrownOver problem.now (V.context view.now) }
     requires right { IsRight problem.now (V.context view.now) demand }
     requires underway { IsUnderway problem.now (V.context view.now) bound state.old.waiting.items state.old.listing.instances.keys state.old.listing.weight }
@@ -149,7 +150,7 @@ pub fn instances_of<V: View>(
     bound: u64,
 ) -> Result<Instances, ListError>
     requires valid { IsValid p.now }
-    requires lawful { bound ≤ 50000000 }
+    requires lawful { bound ≤ MAX_LIST }
     requires close { IsClose p.now (V.context view.now) clause tuple.now.items }
     requires grown { IsGrownOver p.now (V.context view.now) }
     ensures list { IfOk result (λ list. IsLeafList p.now (V.context view.now) clause tuple.now.items list.items) }

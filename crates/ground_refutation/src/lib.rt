@@ -16,6 +16,3 @@ mod state;
 pub use instance_lists::ListError;
 pub use laws::leaf_is_refuted;
 pub use leaf::instances_of;
-
-#[cfg(test)]
-mod tests;

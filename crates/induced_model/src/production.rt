@@ -3,25 +3,12 @@
 //! A Universal entry produces all its instances. A Parametric one produces an instance unless a Universal
 //! entry, or a more specific Parametric one, makes an exception at its atom.
 ghost use Rattle.std.specs.Prelude.{◌≡◌, ◌<◌, ◌⊎◌, Bool, ℕ, length, ◌↔◌, IsTrue};
-ghost use Rattle.me_terms.specs.Substitutions.{Generalizes, IsStrictlyMoreGeneral};
+ghost use Rattle.me_terms.specs.Substitutions.{IsStrictlyMoreGeneral};
 ghost use Rattle.me_terms.specs.Values.{EntryValue};
 ghost use Rattle.me_terms.specs.Produces.{HasException, Produces};
 ghost use Rattle.induced_model.specs.Producers.{IsException, ExceptsAt, Yields, ProducesAt};
 
-use me_terms::{Atom, Entry, Kind, Literal, Pattern, View, matches};
-
-/// Whether the first pattern is at least as general as the second.
-fn generalizes(p: &Pattern, q: &Pattern) -> bool
-    ensures { IsTrue result ↔ Generalizes p.now q.now }
-{
-    match q {
-        Pattern::Any => match p {
-            Pattern::Any => true,
-            Pattern::Of(_) => false,
-        },
-        Pattern::Of(atom) => matches(p, atom),
-    }
-}
+use me_terms::{Atom, Entry, Kind, Literal, Pattern, View, generalizes, matches};
 
 /// Whether the first pattern is more general than the second, and no variant of it.
 fn strictly_more_general(p: &Pattern, q: &Pattern) -> bool

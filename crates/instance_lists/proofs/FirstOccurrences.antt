@@ -9,11 +9,11 @@ use Rattle.me_terms.specs.FirstOccurrences.{same_instance, first_occurrences, jo
 use Rattle.me_terms.specs.InstanceEqualityLaws.{instance_sound}
 
 -- ---- filters
-bool_cases : (b : Bool) → (b ≡ true) ⊎ (b ≡ false)
+pub bool_cases : (b : Bool) → (b ≡ true) ⊎ (b ≡ false)
 bool_cases true = inl refl
 bool_cases false = inr refl
 
-filter_swap : {X : Type 0} (p q : X → Bool) (xs : List X) → filter p (filter q xs) ≡ filter q (filter p xs)
+pub filter_swap : {X : Type 0} (p q : X → Bool) (xs : List X) → filter p (filter q xs) ≡ filter q (filter p xs)
 filter_swap p q [] = refl
 filter_swap p q (x ∷ xs) =
     elim (bool_cases (p x)) as (λ _. filter p (filter q (x ∷ xs)) ≡ filter q (filter p (x ∷ xs))) [
@@ -27,7 +27,7 @@ filter_swap p q (x ∷ xs) =
       ]
     ]
 
-filter_again : {X : Type 0} (p : X → Bool) (xs : List X) → filter p (filter p xs) ≡ filter p xs
+pub filter_again : {X : Type 0} (p : X → Bool) (xs : List X) → filter p (filter p xs) ≡ filter p xs
 filter_again p [] = refl
 filter_again p (x ∷ xs) =
     elim (bool_cases (p x)) as (λ _. filter p (filter p (x ∷ xs)) ≡ filter p (x ∷ xs)) [

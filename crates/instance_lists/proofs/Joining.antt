@@ -6,7 +6,7 @@ use Rattle.me_terms.specs.Values.{InstanceValue}
 use Rattle.me_terms.specs.Measures.{literals_weight, list_weight}
 use Rattle.me_terms.specs.FirstOccurrences.{same_instance, first_occurrences, joined}
 use Rattle.me_terms.specs.InstanceEqualityLaws.{instance_laws}
-use Rattle.instance_lists.specs.News.{stands_in, news, marked}
+use Rattle.instance_lists.specs.News.{stands_in, news, kept_by_marks}
 use Rattle.instance_lists.proofs.FirstOccurrences.{others}
 
 bool_cases : (b : Bool) → (b ≡ true) ⊎ (b ≡ false)
@@ -14,23 +14,23 @@ bool_cases true = inl refl
 bool_cases false = inr refl
 
 -- what is new beside a list with one instance more before it is what is new beside the list, without that instance
-one_before : (x : InstanceValue) (list more : List InstanceValue) → filter (others x) (marked (news list more) more) ≡ marked (news (x ∷ list) more) more
+one_before : (x : InstanceValue) (list more : List InstanceValue) → filter (others x) (kept_by_marks (news list more) more) ≡ kept_by_marks (news (x ∷ list) more) more
 one_before x list [] = refl
 one_before x list (i ∷ more) =
     let turn : same_instance x i ≡ same_instance i x = instance_laws.symm x i in
-    let later : filter (others x) (marked (news (list ++ i ∷ []) more) more) ≡ marked (news (x ∷ (list ++ i ∷ [])) more) more = one_before x (list ++ i ∷ []) more in
-    elim (bool_cases (stands_in list i)) as (λ _. filter (others x) (marked (news list (i ∷ more)) (i ∷ more)) ≡ marked (news (x ∷ list) (i ∷ more)) (i ∷ more)) [
-      | inl known ↦ elim (bool_cases (same_instance i x)) as (λ _. filter (others x) (marked (news list (i ∷ more)) (i ∷ more)) ≡ marked (news (x ∷ list) (i ∷ more)) (i ∷ more)) [
+    let later : filter (others x) (kept_by_marks (news (list ++ i ∷ []) more) more) ≡ kept_by_marks (news (x ∷ (list ++ i ∷ [])) more) more = one_before x (list ++ i ∷ []) more in
+    elim (bool_cases (stands_in list i)) as (λ _. filter (others x) (kept_by_marks (news list (i ∷ more)) (i ∷ more)) ≡ kept_by_marks (news (x ∷ list) (i ∷ more)) (i ∷ more)) [
+      | inl known ↦ elim (bool_cases (same_instance i x)) as (λ _. filter (others x) (kept_by_marks (news list (i ∷ more)) (i ∷ more)) ≡ kept_by_marks (news (x ∷ list) (i ∷ more)) (i ∷ more)) [
         | inl e ↦ simp (known, e) later
         | inr e ↦ simp (known, e) later
       ]
-      | inr fresh ↦ elim (bool_cases (same_instance i x)) as (λ _. filter (others x) (marked (news list (i ∷ more)) (i ∷ more)) ≡ marked (news (x ∷ list) (i ∷ more)) (i ∷ more)) [
+      | inr fresh ↦ elim (bool_cases (same_instance i x)) as (λ _. filter (others x) (kept_by_marks (news list (i ∷ more)) (i ∷ more)) ≡ kept_by_marks (news (x ∷ list) (i ∷ more)) (i ∷ more)) [
         | inl e ↦ simp (fresh, e, turn) later
         | inr e ↦ simp (fresh, e, turn) (λ n. i ∷ later n)
       ]
     ]
 
-none_before : (more : List InstanceValue) → first_occurrences more ≡ marked (news [] more) more
+none_before : (more : List InstanceValue) → first_occurrences more ≡ kept_by_marks (news [] more) more
 none_before [] = refl
 none_before (i ∷ more) = λ n. i ∷ (ap (filter (others i)) (none_before more) ∙ one_before i [] more) n
 
@@ -42,14 +42,14 @@ append_filter p (x ∷ xs) ys =
       | inr e ↦ simp e (append_filter p xs ys)
     ]
 
-pub first_and_new : (list more : List InstanceValue) → first_occurrences (list ++ more) ≡ first_occurrences list ++ marked (news list more) more
+pub first_and_new : (list more : List InstanceValue) → first_occurrences (list ++ more) ≡ first_occurrences list ++ kept_by_marks (news list more) more
 first_and_new [] more = none_before more
 first_and_new (x ∷ list) more =
-    λ n. x ∷ (ap (filter (others x)) (first_and_new list more) ∙ (append_filter (others x) (first_occurrences list) (marked (news list more) more) ∙ ap (λ (ys : List InstanceValue). filter (others x) (first_occurrences list) ++ ys) (one_before x list more))) n
+    λ n. x ∷ (ap (filter (others x)) (first_and_new list more) ∙ (append_filter (others x) (first_occurrences list) (kept_by_marks (news list more) more) ∙ ap (λ (ys : List InstanceValue). filter (others x) (first_occurrences list) ++ ys) (one_before x list more))) n
 
 -- a list in which each instance stands once, joined with another one
-pub joined_new : (list more : List InstanceValue) → first_occurrences list ≡ list → joined list more ≡ list ++ marked (news list more) more
-joined_new list more once = first_and_new list more ∙ ap (λ (xs : List InstanceValue). xs ++ marked (news list more) more) once
+pub joined_new : (list more : List InstanceValue) → first_occurrences list ≡ list → joined list more ≡ list ++ kept_by_marks (news list more) more
+joined_new list more once = first_and_new list more ∙ ap (λ (xs : List InstanceValue). xs ++ kept_by_marks (news list more) more) once
 
 pub weight-append : (xs ys : List InstanceValue) → list_weight (xs ++ ys) ≡ list_weight xs + list_weight ys
 weight-append xs ys = sum_by-append (λ (i : InstanceValue). literals_weight i.literals) xs ys

@@ -14,7 +14,7 @@ news list [] = []
 news list (i ∷ more) = not (stands_in list i) ∷ news (list ++ i ∷ []) more
 
 -- The items whose mark is true.
-abbrev pub marked : {A : Type 0} → List Bool → List A → List A
-marked marks [] = []
-marked [] (x ∷ xs) = []
-marked (mark ∷ marks) (x ∷ xs) = if mark then x ∷ marked marks xs else marked marks xs
+abbrev pub kept_by_marks : {A : Type 0} → List Bool → List A → List A
+kept_by_marks marks [] = []
+kept_by_marks [] (x ∷ xs) = []
+kept_by_marks (mark ∷ marks) (x ∷ xs) = if mark then x ∷ kept_by_marks marks xs else kept_by_marks marks xs

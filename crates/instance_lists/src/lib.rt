@@ -11,6 +11,3 @@ mod weight;
 
 pub use error::ListError;
 pub use merging::merge;
-
-#[cfg(test)]
-mod tests;

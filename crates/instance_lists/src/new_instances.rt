@@ -2,7 +2,7 @@
 //!
 //! They are found by a set of the instances that stand before them.
 ghost use Rattle.std.specs.Prelude.{◌≡◌, IfOk};
-ghost use Rattle.instance_lists.specs.News.{news, marked, stands_in};
+ghost use Rattle.instance_lists.specs.News.{news, kept_by_marks, stands_in};
 
 use me_terms::{Instance, Instances};
 use std::alloc::{AllocError, Global};
@@ -34,7 +34,7 @@ pub(crate) fn keep_marked(
     list: Instances,
     marks: &[bool],
 ) -> Result<Instances, AllocError>
-    ensures { IfOk result (λ kept. kept.items ≡ marked marks.now list.items) }
+    ensures { IfOk result (λ kept. kept.items ≡ kept_by_marks marks.now list.items) }
 {
     let mut kept = Instances::new(alloc);
     for (instance, is_marked) in list.into_vec().into_iter().zip(marks) {

@@ -1,5 +1,5 @@
 -- Counts that stop at the greatest u64, against lawful bounds.
-use Rattle.std.proofs.Common.{◌≡◌, ℕ, ◌<◌, ◌≤◌, Bool, true, ◌&&◌, ◌↔◌, IsTrue, refl, sym, subst, ap, ◌∙◌, arith}
+use Rattle.std.proofs.Common.{◌≡◌, ℕ, ◌<◌, ◌≤◌, sym, subst, ◌∙◌, arith}
 use Rattle.me_terms.specs.Measures.{GREATEST_U64, capped, literal_depth, literal_weight, canonical_literal}
 use Rattle.me_terms.specs.Fits.{Fits}
 use Rattle.me_terms.specs.Validity.{IsLawful}

@@ -8,7 +8,12 @@ use Rattle.me_unify.specs.Equations.{Equation, IsMostGeneral}
 use Rattle.me_unify.specs.Measured.{IsAtomMeasure}
 use Rattle.me_unify.specs.declared.measure.Measure.{Measure}
 use Rattle.me_unify.proofs.Bound.{at_push}
-use Rattle.joint_unifiers.specs.Measured.{AreMeasures, IsMeasuredUnifier}
+use Rattle.joint_unifiers.specs.Measured.{IsMeasuredUnifier}
+
+-- each measure so far is that of the literal at its place
+abbrev pub AreMeasures : List Equation → List Literal → List Measure → Type 0
+AreMeasures equations literals measures =
+    (place : ℕ) (l : Literal) (m : Measure) (u : Family) → slice_get literals place ≡ Some l → slice_get measures place ≡ Some m → IsMostGeneral equations u → IsAtomMeasure (unified u l).atom m
 
 -- what is read at a place is the measure of the literal there
 pub measure_at : (es : List Equation) (ls : List Literal) (ms : List Measure) (place : ℕ) (m : Measure) → IsMeasuredUnifier es ls ms → place < length ls → m ≡ get_or ms place m

@@ -7,17 +7,12 @@ use Rattle.me_unify.specs.Equations.{Equation, IsMostGeneral}
 use Rattle.me_unify.specs.Measured.{IsAtomMeasure}
 use Rattle.me_unify.specs.declared.measure.Measure.{Measure}
 
--- Each measure is that of the literal at its place.
-abbrev pub AreMeasures : List Equation → List Literal → List Measure → Type 0
-AreMeasures equations literals measures =
-    (place : ℕ) (l : Literal) (m : Measure) (u : Family) → slice_get literals place ≡ Some l → slice_get measures place ≡ Some m → IsMostGeneral equations u → IsAtomMeasure (unified u l).atom m
-
--- There is a measure for each literal.
-pub record AreMeasured (equations : List Equation) (literals : List Literal) (measures : List Measure) : Type 0 where
+-- There is a measure for each literal, which is that of the literal's atom under what is most general for the equations.
+pub record HasMeasures (equations : List Equation) (literals : List Literal) (measures : List Measure) : Type 0 where
   pub each_place : length measures ≡ length literals
-  pub measured : AreMeasures equations literals measures
+  pub measured : (place : ℕ) (l : Literal) (m : Measure) (u : Family) → slice_get literals place ≡ Some l → slice_get measures place ≡ Some m → IsMostGeneral equations u → IsAtomMeasure (unified u l).atom m
 
 -- The equations have a most general unifier, under which the literals have these measures.
 pub record IsMeasuredUnifier (equations : List Equation) (literals : List Literal) (measures : List Measure) : Type 0 where
   pub family : (u : Family) × IsMostGeneral equations u
-  pub measured : AreMeasured equations literals measures
+  pub measured : HasMeasures equations literals measures

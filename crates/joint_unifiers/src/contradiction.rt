@@ -11,7 +11,7 @@ ghost use Rattle.me_terms.specs.Contradictory.{Unifiable, Clash, IsContradictory
 ghost use Rattle.me_terms.specs.declared.atom.Pattern.TheVariants as variant;
 ghost use Rattle.joint_unifiers.specs.Contradiction.{ContradictsAt};
 
-use me_terms::{Atom, Entry, Kind, Literal, Pattern, View, generalizes, is_variant_of, matches};
+use me_terms::{Atom, Entry, Kind, Literal, Pattern, View, is_instance, is_variant_of, matches};
 use me_unify::Bindings;
 use std::alloc::{AllocError, Global};
 
@@ -25,13 +25,13 @@ fn unifiable(alloc: Global, pattern: &Pattern, atom: &Atom) -> Result<bool, Allo
     }
 }
 
-/// Whether the pattern is an instance of the atom.
-fn is_instance(atom: &Atom, pattern: &Pattern) -> bool
+/// Whether the pattern is an instance of the atom. The pseudo-atom is none.
+fn is_pattern_instance(atom: &Atom, pattern: &Pattern) -> bool
     ensures { IsTrue result ↔ Generalizes (variant.Of atom.now) pattern.now }
 {
     match pattern {
         Pattern::Any => false,
-        Pattern::Of(other) => generalizes(atom, other),
+        Pattern::Of(other) => is_instance(atom, other),
     }
 }
 
@@ -42,7 +42,7 @@ fn clashes(alloc: Global, entry: &Entry, atom: &Atom, kind: Kind) -> Result<bool
     match (entry.kind, kind) {
         (Kind::Universal, Kind::Universal) => unifiable(alloc, &entry.atom, atom),
         (Kind::Universal, Kind::Parametric) => Ok(matches(&entry.atom, atom)),
-        (Kind::Parametric, Kind::Universal) => Ok(is_instance(atom, &entry.atom)),
+        (Kind::Parametric, Kind::Universal) => Ok(is_pattern_instance(atom, &entry.atom)),
         (Kind::Parametric, Kind::Parametric) => Ok(is_variant_of(&entry.atom, atom)),
     }
 }

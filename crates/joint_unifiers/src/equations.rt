@@ -2,15 +2,16 @@
 //!
 //! A skipped place gives no equation, and the pseudo-literal none. The answer tells exactly whether the
 //! equations of all places have a solution.
-ghost use Rattle.std.specs.Prelude.{◌≡◌, ℕ, ◌<◌, ◌≤◌, ◌+◌, ◌-◌, ◌^◌, ◌++◌, [], length, slice_get, Some, IfOk, IsTrue, ◌↔◌};
+ghost use Rattle.std.specs.Prelude.{◌≡◌, ℕ, ◌<◌, ◌≤◌, ◌+◌, ◌-◌, ◌^◌, ◌++◌, [], false, length, slice_get, Some, IfOk, IfSome, IsSome, OnErr, IsTrue, ◌↔◌};
+ghost use Rattle.me_terms.specs.Substitutions.{Family};
 ghost use Rattle.me_terms.specs.Positions.{positions_of, entry_at};
-ghost use Rattle.me_unify.specs.Equations.{IsSolvable};
+ghost use Rattle.me_unify.specs.Equations.{IsMostGeneral, IsSolvable};
 ghost use Rattle.me_unify.specs.ClauseEquations.{equations_with, equations_at, clause_equations};
 ghost use Rattle.joint_unifiers.specs.Places.{IsPlaceOf};
 
 use me_terms::{Entry, Literal, Pattern, Tuple, View};
 use me_unify::Bindings;
-use std::alloc::AllocError;
+use std::alloc::{AllocError, Global};
 
 /// The position that is set against a place, and none at a skipped place.
 pub(crate) fn position_at(skip: Option<u32>, tuple: &Tuple, place: u32) -> Option<u32>
@@ -32,18 +33,21 @@ pub(crate) fn position_at(skip: Option<u32>, tuple: &Tuple, place: u32) -> Optio
     }
 }
 
-/// Adds the equation of an entry, with the variables of a space, and a literal. Whether the equations
-/// have a solution still.
-fn add_entry(
+/// Adds the equation of an entry, with the variables of a space, and a literal, and tells whether all
+/// equations have a solution. After no, and where memory is out, they are as before.
+pub fn add_entry(
     bindings: &mut Bindings,
     space: u32,
     entry: &Entry,
     literal: &Literal,
 ) -> Result<bool, AllocError>
-    requires { IsSolvable bindings.old }
     ensures exact { IfOk result (λ answer. IsTrue answer ↔ IsSolvable (bindings.old ++ equations_with space entry.now.atom literal.now)) }
     ensures yes { IfOk result (λ answer. IsTrue answer → bindings.new ≡ bindings.old ++ equations_with space entry.now.atom literal.now) }
+    ensures unifier { IfOk result (λ answer. IsTrue answer → (u : Family) × IsMostGeneral bindings.new u) }
+    ensures no { IfOk result (λ answer. answer ≡ false → bindings.new ≡ bindings.old) }
+    ensures err { OnErr result (bindings.new ≡ bindings.old) }
 {
+    let _unifier = bindings.mark();
     match &entry.atom {
         Pattern::Any => Ok(true),
         Pattern::Of(atom) => bindings.unify(space, atom, 0, &literal.atom),
@@ -58,10 +62,10 @@ fn add_position<V: View>(
     position: Option<u32>,
     literal: &Literal,
 ) -> Result<bool, AllocError>
-    requires { IsSolvable bindings.old }
     ensures exact { IfOk result (λ answer. IsTrue answer ↔ IsSolvable (bindings.old ++ equations_at space (entry_at (V.context view.now) position) literal.now)) }
     ensures yes { IfOk result (λ answer. IsTrue answer → bindings.new ≡ bindings.old ++ equations_at space (entry_at (V.context view.now) position) literal.now) }
 {
+    let _unifier = bindings.mark();
     let Some(k) = position else {
         return Ok(true);
     };
@@ -72,7 +76,7 @@ fn add_position<V: View>(
 }
 
 /// Adds the equations of all places to bindings without equations. Whether they have a solution.
-pub(crate) fn add_places<V: View>(
+fn add_places<V: View>(
     bindings: &mut Bindings,
     view: &V,
     literals: &[Literal],
@@ -93,4 +97,27 @@ pub(crate) fn add_places<V: View>(
         }
     }
     Ok(true)
+}
+
+/// The equations of a clause's literals, but for the one at `skip`, with the entries at the positions of the
+/// tuple. None exactly where they have no solution.
+pub fn clause_bindings<V: View>(
+    alloc: Global,
+    view: &V,
+    literals: &[Literal],
+    skip: Option<u32>,
+    tuple: &Tuple,
+) -> Result<Option<Bindings>, AllocError>
+    requires skip { IsPlaceOf skip (length literals.now) }
+    requires each_place { length (positions_of skip tuple.now.items) ≡ length literals.now }
+    requires few { length literals.now < 2 ^ 32 - 1 }
+    ensures exact { IfOk result (λ r. IsSome r ↔ IsSolvable (clause_equations (V.context view.now) literals.now (positions_of skip tuple.now.items))) }
+    ensures equations { IfOk result (λ r. IfSome r (λ bindings. bindings ≡ clause_equations (V.context view.now) literals.now (positions_of skip tuple.now.items))) }
+{
+    let mut bindings = Bindings::new(alloc);
+    if add_places(&mut bindings, view, literals, skip, tuple)? {
+        Ok(Some(bindings))
+    } else {
+        Ok(None)
+    }
 }

@@ -7,11 +7,10 @@ ghost use Rattle.me_terms.specs.Positions.{positions_of, AreOpposite};
 ghost use Rattle.me_terms.specs.Unifier.{IsContextUnifier};
 ghost use Rattle.joint_unifiers.specs.ClauseUnifiers.{IsUnifierOf, IsSkip};
 
-use crate::equations::add_places;
+use crate::equations::clause_bindings;
 use crate::remainder::remaining;
 use crate::unifier::Unifier;
 use me_terms::{Clause, Tuple, View};
-use me_unify::Bindings;
 use std::alloc::{AllocError, Global};
 
 /// The most general unifier of a clause's literals, but for the one at `skip`, and the entries at the
@@ -32,10 +31,9 @@ pub fn joint_unifier<V: View>(
     ensures unifier { IfOk result (λ r. IfSome r (λ u. IsUnifierOf (V.context view.now) clause.now.literals skip tuple.now.items u)) }
 {
     let literals = &clause.literals;
-    let mut bindings = Bindings::new(alloc);
-    if !add_places(&mut bindings, view, literals.as_slice(), skip, tuple)? {
+    let Some(bindings) = clause_bindings(alloc, view, literals.as_slice(), skip, tuple)? else {
         return Ok(None);
-    }
+    };
     let count = literals.len() as u32;
     let remainder = remaining(alloc, &bindings, view, skip, tuple, count)?;
     Ok(Some(Unifier::new(alloc, literals, tuple, bindings, remainder)?))

@@ -12,6 +12,7 @@ mod remainder;
 mod unifier;
 
 pub use contradiction::is_contradictory;
+pub use equations::{add_entry, clause_bindings};
 pub use joint::joint_unifier;
 pub use remainder::is_restricted;
 pub use unifier::Unifier;

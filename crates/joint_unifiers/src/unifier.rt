@@ -9,7 +9,7 @@ ghost use Rattle.me_terms.specs.Measures.{capped, literal_weight, literal_depth,
 ghost use Rattle.me_terms.specs.Unifier.{unified};
 ghost use Rattle.me_terms.specs.declared.atom.Literal.{Literal as LiteralOf};
 ghost use Rattle.me_unify.specs.Equations.{IsMostGeneral};
-ghost use Rattle.joint_unifiers.specs.Measured.{AreMeasured};
+ghost use Rattle.joint_unifiers.specs.Measured.{HasMeasures};
 
 use me_terms::{Again, Literal, Literals, Places, Tuple};
 use me_unify::{Bindings, Measure};
@@ -49,7 +49,7 @@ fn measures_of(
     literals: &[Literal],
 ) -> Result<Vec<Measure>, AllocError>
     ensures kept { bindings.new ≡ bindings.old }
-    ensures measured { IfOk result (λ measures. AreMeasured bindings.old literals.now measures.items) }
+    ensures measured { IfOk result (λ measures. HasMeasures bindings.old literals.now measures.items) }
 {
     let mut measures = Vec::new(alloc);
     for literal in literals {

@@ -2,3 +2,4 @@ pub mod Standing
 pub mod Drawing
 pub mod Plainness
 pub mod Words
+pub mod Room

@@ -26,7 +26,7 @@ use Rattle.rand_core.specs.Steps.{first_words}
 use Rattle.rand_pcg.specs.Lcg.{Lcg}
 use Rattle.rand_pcg.specs.Pcg.{pcg32, pcg32_of_seed}
 use Rattle.rand_core.specs.Pcg32Seed.{pcg32_seed}
-use Rattle.make_problem.specs.Made.{words_of, predicate_of, constant_by, constant_of, argument_as, predicates_of, constants_of, literals_of, label_of, clauses_of, IsMade}
+use Rattle.make_problem.specs.Made.{words_of, predicate_of, constant_by, constant_of, argument_as, predicates_of, constants_of, made_literals, made_label, made_clauses, IsMade}
 use Rattle.make_problem.specs.Drawn.{with_words}
 use Rattle.make_problem.proofs.Standing.{Stand, stand, stand_longer, found, Known, known_parts, LongerSignature, words_known, clauses_stay}
 
@@ -45,7 +45,7 @@ digits_printable (c ∷ ds) h = let r = digit_from_value c h.0 in both_true (is_
 name_printable : (letter n : ℕ) → is_printable letter ≡ true → n < 2 ^ 64 → list_all is_printable (letter ∷ decimal n) ≡ true
 name_printable letter n h small = both_true (is_printable letter) (list_all is_printable (decimal n)) h (digits_printable (decimal n) (decimal_is_IsNumeral n small).0.1)
 
-label_named : (n : ℕ) → n < 2 ^ 64 → IsClauseLabel (label_of n)
+label_named : (n : ℕ) → n < 2 ^ 64 → IsClauseLabel (made_label n)
 label_named n small = (((λ e. cc), name_printable 103 n refl small), λ e. cc)
 
 predicate_named : (preds w : ℕ) → 1 ≤ preds → preds ≤ 1000 → IsPredicateSymbol (predicate_of preds w)
@@ -141,27 +141,27 @@ module _ (preds : ℕ) (s : SignatureValue) where
   later_numbered None xs h = h
   later_numbered (Some c) xs h = h
 
-  numbered_from_1 : (words : List ℕ) → is_numbered_from 1 (clause_variables (literals_of preds s words)) ≡ true
+  numbered_from_1 : (words : List ℕ) → is_numbered_from 1 (clause_variables (made_literals preds s words)) ≡ true
   numbered_from_1 [] = refl
-  numbered_from_1 (w ∷ ws) = later_numbered (constant_of w) (clause_variables (literals_of preds s ws)) (numbered_from_1 ws)
+  numbered_from_1 (w ∷ ws) = later_numbered (constant_of w) (clause_variables (made_literals preds s ws)) (numbered_from_1 ws)
 
   first_numbered : (o : Option SymbolValue) (xs : List ℕ) → is_numbered_from 1 xs ≡ true → is_numbered_from 0 xs ≡ true → is_numbered_from 0 (variables_of (Cons (argument_as s.functions o) Nil) ++ xs) ≡ true
   first_numbered None xs h k = h
   first_numbered (Some c) xs h k = k
 
-  numbered : (words : List ℕ) → is_numbered_from 0 (clause_variables (literals_of preds s words)) ≡ true
+  numbered : (words : List ℕ) → is_numbered_from 0 (clause_variables (made_literals preds s words)) ≡ true
   numbered [] = refl
-  numbered (w ∷ ws) = first_numbered (constant_of w) (clause_variables (literals_of preds s ws)) (numbered_from_1 ws) (numbered ws)
+  numbered (w ∷ ws) = first_numbered (constant_of w) (clause_variables (made_literals preds s ws)) (numbered_from_1 ws) (numbered ws)
 
   one_at_most : (o : Option SymbolValue) (xs : List ℕ) → length (variables_of (Cons (argument_as s.functions o) Nil) ++ xs) ≤ 1 + length xs
   one_at_most None xs = omega arith
   one_at_most (Some c) xs = omega arith
 
-  few_variables : (words : List ℕ) → length (clause_variables (literals_of preds s words)) ≤ length words
+  few_variables : (words : List ℕ) → length (clause_variables (made_literals preds s words)) ≤ length words
   few_variables [] = omega arith
-  few_variables (w ∷ ws) = omega (arith, one_at_most (constant_of w) (clause_variables (literals_of preds s ws)), few_variables ws)
+  few_variables (w ∷ ws) = omega (arith, one_at_most (constant_of w) (clause_variables (made_literals preds s ws)), few_variables ws)
 
-  as_many : (words : List ℕ) → length (literals_of preds s words) ≡ length words
+  as_many : (words : List ℕ) → length (made_literals preds s words) ≡ length words
   as_many [] = refl
   as_many (w ∷ ws) = omega (arith, as_many ws)
 
@@ -169,7 +169,7 @@ module _ (preds : ℕ) (s : SignatureValue) where
   flat_argument None = omega arith
   flat_argument (Some c) = omega arith
 
-  flat : (words : List ℕ) → AllByRecursion (λ l. literal_depth l ≤ 249) (literals_of preds s words)
+  flat : (words : List ℕ) → AllByRecursion (λ l. literal_depth l ≤ 249) (made_literals preds s words)
   flat [] = tt
   flat (w ∷ ws) = (flat_argument (constant_of w), flat ws)
 
@@ -177,14 +177,14 @@ module _ (preds : ℕ) (s : SignatureValue) where
   argument_known None h k = refl
   argument_known (Some c) h k = both_true (takes (slice_get s.functions (number_of c s.functions)) 0) true (ap (λ (x : Option SymbolValue). takes x 0) (found c s.functions h.0) ∙ k.0.constant) refl
 
-  known : (words : List ℕ) → Known preds s words → list_all (λ l. is_known_atom s l.atom) (literals_of preds s words) ≡ true
+  known : (words : List ℕ) → Known preds s words → list_all (λ l. is_known_atom s l.atom) (made_literals preds s words) ≡ true
   known [] h = refl
   known (w ∷ ws) h =
       let parts = known_parts preds s 1 (w ∷ ws) h in
       let t : TermValue = argument_as s.functions (constant_of w) in
       let pred : takes (slice_get s.predicates (number_of (predicate_of preds w) s.predicates)) 1 ≡ true = ap (λ (x : Option SymbolValue). takes x 1) (found (predicate_of preds w) s.predicates h.predicates.0) in
       let argument : is_known s t ≡ true = argument_known (constant_of w) (stand_first (constant_of w) (constants_of ws) h.functions) (constant_fine _) in
-      both_true (takes (slice_get s.predicates (number_of (predicate_of preds w) s.predicates)) 1 && (is_known s t && true)) (list_all (λ l. is_known_atom s l.atom) (literals_of preds s ws))
+      both_true (takes (slice_get s.predicates (number_of (predicate_of preds w) s.predicates)) 1 && (is_known s t && true)) (list_all (λ l. is_known_atom s l.atom) (made_literals preds s ws))
       (both_true (takes (slice_get s.predicates (number_of (predicate_of preds w) s.predicates)) 1) (is_known s t && true) pred (both_true (is_known s t) true argument refl))
       (known ws parts.1)
     where
@@ -201,14 +201,14 @@ module _ (preds : ℕ) (s : SignatureValue) where
       ap (λ (x : Option SymbolValue). option_to_list x ++ symbols_at s.functions xs) (found c s.functions h.0)
       ∙ ap (λ (x : List SymbolValue). c ∷ x) (k h.1)
 
-  literals_functions : (words : List ℕ) → Stand (constants_of words) s.functions → symbols_at s.functions (flat_map (λ l. function_numbers l.atom.args) (literals_of preds s words)) ≡ constants_of words
+  literals_functions : (words : List ℕ) → Stand (constants_of words) s.functions → symbols_at s.functions (flat_map (λ l. function_numbers l.atom.args) (made_literals preds s words)) ≡ constants_of words
   literals_functions [] h = refl
-  literals_functions (w ∷ ws) h = argument_symbols (constant_of w) (constants_of ws) (flat_map (λ l. function_numbers l.atom.args) (literals_of preds s ws)) h (λ k. literals_functions ws k)
+  literals_functions (w ∷ ws) h = argument_symbols (constant_of w) (constants_of ws) (flat_map (λ l. function_numbers l.atom.args) (made_literals preds s ws)) h (λ k. literals_functions ws k)
 
-  literals_predicates : (words : List ℕ) → Stand (predicates_of preds words) s.predicates → symbols_at s.predicates (flat_map (λ l. l.atom.pred ∷ []) (literals_of preds s words)) ≡ predicates_of preds words
+  literals_predicates : (words : List ℕ) → Stand (predicates_of preds words) s.predicates → symbols_at s.predicates (flat_map (λ l. l.atom.pred ∷ []) (made_literals preds s words)) ≡ predicates_of preds words
   literals_predicates [] h = refl
   literals_predicates (w ∷ ws) h =
-      ap (λ (x : Option SymbolValue). option_to_list x ++ symbols_at s.predicates (flat_map (λ l. l.atom.pred ∷ []) (literals_of preds s ws))) (found (predicate_of preds w) s.predicates h.0)
+      ap (λ (x : Option SymbolValue). option_to_list x ++ symbols_at s.predicates (flat_map (λ l. l.atom.pred ∷ []) (made_literals preds s ws))) (found (predicate_of preds w) s.predicates h.0)
       ∙ ap (λ (x : List SymbolValue). predicate_of preds w ∷ x) (literals_predicates ws h.1)
 
   -- ---- clauses
@@ -217,13 +217,13 @@ module _ (preds : ℕ) (s : SignatureValue) where
   none_left [] h = refl
   none_left (w ∷ ws) h = absurd (omega (arith, h))
 
-  clauses_have_functions : (n more : ℕ) (words : List ℕ) → length words ≡ 3 * more → Known preds s words → symbols_at s.functions (clauses_functions (clauses_of preds s n more words)) ≡ constants_of words
+  clauses_have_functions : (n more : ℕ) (words : List ℕ) → length words ≡ 3 * more → Known preds s words → symbols_at s.functions (clauses_functions (made_clauses preds s n more words)) ≡ constants_of words
   clauses_have_functions n zero words long h = ap constants_of (sym (none_left words (omega (arith, long))))
   clauses_have_functions n (suc more) words long h =
       let parts = known_parts preds s 3 words h in
-      let here : List ℕ = flat_map (λ l. function_numbers l.atom.args) (literals_of preds s (take 3 words)) in
-      symbols-append s.functions here (clauses_functions (clauses_of preds s (n + 1) more (drop 3 words)))
-      ∙ ap (λ (x : List SymbolValue). x ++ symbols_at s.functions (clauses_functions (clauses_of preds s (n + 1) more (drop 3 words)))) (literals_functions (take 3 words) parts.0.functions)
+      let here : List ℕ = flat_map (λ l. function_numbers l.atom.args) (made_literals preds s (take 3 words)) in
+      symbols-append s.functions here (clauses_functions (made_clauses preds s (n + 1) more (drop 3 words)))
+      ∙ ap (λ (x : List SymbolValue). x ++ symbols_at s.functions (clauses_functions (made_clauses preds s (n + 1) more (drop 3 words)))) (literals_functions (take 3 words) parts.0.functions)
       ∙ ap (λ (x : List SymbolValue). constants_of (take 3 words) ++ x) (clauses_have_functions (n + 1) more (drop 3 words) (omega (arith, long, length-drop 3 words)) parts.1)
       ∙ sym (flat_map-append (λ (w : ℕ). option_to_list (constant_of w)) (take 3 words) (drop 3 words))
       ∙ ap constants_of (take-append-drop 3 words)
@@ -232,22 +232,22 @@ module _ (preds : ℕ) (s : SignatureValue) where
   map_parts [] ys = refl
   map_parts (x ∷ xs) ys = ap (λ (ss : List SymbolValue). predicate_of preds x ∷ ss) (map_parts xs ys)
 
-  clauses_have_predicates : (n more : ℕ) (words : List ℕ) → length words ≡ 3 * more → Known preds s words → symbols_at s.predicates (clauses_predicates (clauses_of preds s n more words)) ≡ predicates_of preds words
+  clauses_have_predicates : (n more : ℕ) (words : List ℕ) → length words ≡ 3 * more → Known preds s words → symbols_at s.predicates (clauses_predicates (made_clauses preds s n more words)) ≡ predicates_of preds words
   clauses_have_predicates n zero words long h = ap (predicates_of preds) (sym (none_left words (omega (arith, long))))
   clauses_have_predicates n (suc more) words long h =
       let parts = known_parts preds s 3 words h in
-      let here : List ℕ = flat_map (λ l. l.atom.pred ∷ []) (literals_of preds s (take 3 words)) in
-      symbols-append s.predicates here (clauses_predicates (clauses_of preds s (n + 1) more (drop 3 words)))
-      ∙ ap (λ (x : List SymbolValue). x ++ symbols_at s.predicates (clauses_predicates (clauses_of preds s (n + 1) more (drop 3 words)))) (literals_predicates (take 3 words) parts.0.predicates)
+      let here : List ℕ = flat_map (λ l. l.atom.pred ∷ []) (made_literals preds s (take 3 words)) in
+      symbols-append s.predicates here (clauses_predicates (made_clauses preds s (n + 1) more (drop 3 words)))
+      ∙ ap (λ (x : List SymbolValue). x ++ symbols_at s.predicates (clauses_predicates (made_clauses preds s (n + 1) more (drop 3 words)))) (literals_predicates (take 3 words) parts.0.predicates)
       ∙ ap (λ (x : List SymbolValue). predicates_of preds (take 3 words) ++ x) (clauses_have_predicates (n + 1) more (drop 3 words) (omega (arith, long, length-drop 3 words)) parts.1)
       ∙ sym (map_parts (take 3 words) (drop 3 words))
       ∙ ap (predicates_of preds) (take-append-drop 3 words)
 
-  have_numbers : (n more : ℕ) (words : List ℕ) → HasNumbersFrom n (clauses_of preds s n more words)
+  have_numbers : (n more : ℕ) (words : List ℕ) → HasNumbersFrom n (made_clauses preds s n more words)
   have_numbers n zero words = tt
   have_numbers n (suc more) words = (refl, have_numbers (n + 1) more (drop 3 words))
 
-  clause_count : (n more : ℕ) (words : List ℕ) → length (clauses_of preds s n more words) ≡ more
+  clause_count : (n more : ℕ) (words : List ℕ) → length (made_clauses preds s n more words) ≡ more
   clause_count n zero words = refl
   clause_count n (suc more) words = omega (arith, clause_count (n + 1) more (drop 3 words))
 
@@ -264,7 +264,7 @@ module _ (preds : ℕ) (s : SignatureValue) where
       by true h k = omega (arith, h)
       by false h k = omega (arith, k, length-append seen (x ∷ []))
 
-  clauses_valid : (n more : ℕ) (words : List ℕ) → n + more ≤ 1000000 → Known preds s words → AllByRecursion (IsValidClause s) (clauses_of preds s n more words)
+  clauses_valid : (n more : ℕ) (words : List ℕ) → n + more ≤ 1000000 → Known preds s words → AllByRecursion (IsValidClause s) (made_clauses preds s n more words)
   clauses_valid n zero words small h = tt
   clauses_valid n (suc more) words small h =
       let parts = known_parts preds s 3 words h in (
@@ -277,12 +277,12 @@ module _ (preds : ℕ) (s : SignatureValue) where
         clauses_valid (n + 1) more (drop 3 words) (omega (arith, small)) parts.1,
       )
 
-  clauses_within : (n more : ℕ) (words : List ℕ) → AllByRecursion IsWithinLimits (clauses_of preds s n more words)
+  clauses_within : (n more : ℕ) (words : List ℕ) → AllByRecursion IsWithinLimits (made_clauses preds s n more words)
   clauses_within n zero words = tt
   clauses_within n (suc more) words = (
     record {
       literals = omega (arith, as_many (take 3 words), take_few 3 words);
-      variables = omega (arith, few_ones [] (clause_variables (literals_of preds s (take 3 words))), few_variables (take 3 words), take_few 3 words);
+      variables = omega (arith, few_ones [] (clause_variables (made_literals preds s (take 3 words))), few_variables (take 3 words), take_few 3 words);
       nesting = flat (take 3 words);
     },
     clauses_within (n + 1) more (drop 3 words),
@@ -311,7 +311,7 @@ abbrev pub problem_by : ℕ → ℕ → List ℕ → ProblemValue
 problem_by preds count words =
     let functions = with_constant (with_symbols [] (constants_of words)) in
     let signature : SignatureValue = record { functions = functions; predicates = with_symbols [] (predicates_of preds words) } in
-    record { clauses = clauses_of preds signature 1 count words; signature = signature; c0 = position_or_len is_constant functions }
+    record { clauses = made_clauses preds signature 1 count words; signature = signature; c0 = position_or_len is_constant functions }
 
 plain_by : (preds count : ℕ) (words : List ℕ) → 1 ≤ preds → preds ≤ 1000 → count ≤ 100000 → length words ≡ 3 * count → IsPlain (problem_by preds count words)
 plain_by preds count words some few bounded long =
@@ -326,7 +326,7 @@ plain_by preds count words some few bounded long =
     let named = all_with IsPredicateSymbol (predicates_of preds words) [] tt (predicates_named preds words some few) in
     record {
       valid = record {
-        clauses = all_of_them (IsValidClause s) (clauses_of preds s 1 count words) (clauses_valid preds s 1 count words (omega (arith, bounded)) stands);
+        clauses = all_of_them (IsValidClause s) (made_clauses preds s 1 count words) (clauses_valid preds s 1 count words (omega (arith, bounded)) stands);
         few_clauses = omega (arith, bounded, clause_count preds s 1 count words);
         functions = all_of_them IsFunctionSymbol (with_constant fns) (weaker IsFine IsFunctionSymbol (with_constant fns) (λ x h. h.function) all_fine);
         predicates = all_of_them IsPredicateSymbol (with_symbols [] (predicates_of preds words)) named;
@@ -350,15 +350,15 @@ made_by seed preds count problem h =
     ap (λ (x : List SymbolValue). (record { functions = x; predicates = problem.signature.predicates })) h.functions
     ∙ ap (λ (x : List SymbolValue). (record { functions = with_constant (with_symbols [] (constants_of words)); predicates = x })) h.predicates in
     ap (λ (x : List ClauseValue). (record { clauses = x; signature = problem.signature; c0 = problem.c0 })) h.clauses_are
-    ∙ ap (λ (x : ℕ). (record { clauses = clauses_of preds problem.signature 1 count words; signature = problem.signature; c0 = x })) h.c0
-    ∙ ap (λ (x : SignatureValue). (record { clauses = clauses_of preds x 1 count words; signature = x; c0 = position_or_len is_constant x.functions })) same
+    ∙ ap (λ (x : ℕ). (record { clauses = made_clauses preds problem.signature 1 count words; signature = problem.signature; c0 = x })) h.c0
+    ∙ ap (λ (x : SignatureValue). (record { clauses = made_clauses preds x 1 count words; signature = x; c0 = position_or_len is_constant x.functions })) same
 
 pub made_is_plain : (seed preds count : ℕ) (problem : ProblemValue) → 1 ≤ preds → preds ≤ 1000 → count ≤ 100000 → IsMade seed preds count problem → IsPlain problem
 made_is_plain seed preds count problem some few bounded h =
     subst IsPlain (sym (made_by seed preds count problem h)) (plain_by preds count (words_of seed (3 * count)) some few bounded (words_length seed (3 * count)))
 
 -- the clauses by the signature before c0 is added are those of the problem
-pub made_by_words : (seed preds count : ℕ) (drawn : SignatureValue) (problem : ProblemValue) → drawn ≡ with_words preds (record { functions = []; predicates = [] }) (words_of seed (3 * count)) → problem.clauses ≡ clauses_of preds drawn 1 count (words_of seed (3 * count)) → problem.signature ≡ (record { functions = with_constant drawn.functions; predicates = drawn.predicates }) → problem.c0 ≡ 0 → IsMade seed preds count problem
+pub made_by_words : (seed preds count : ℕ) (drawn : SignatureValue) (problem : ProblemValue) → drawn ≡ with_words preds (record { functions = []; predicates = [] }) (words_of seed (3 * count)) → problem.clauses ≡ made_clauses preds drawn 1 count (words_of seed (3 * count)) → problem.signature ≡ (record { functions = with_constant drawn.functions; predicates = drawn.predicates }) → problem.c0 ≡ 0 → IsMade seed preds count problem
 made_by_words seed preds count drawn problem is clauses signature c0 =
     let words : List ℕ = words_of seed (3 * count) in
     let empty : SignatureValue = record { functions = []; predicates = [] } in
@@ -367,7 +367,7 @@ made_by_words seed preds count drawn problem is clauses signature c0 =
     let longer : LongerSignature drawn last = record { functions = with_constant_longer (list_any is_constant drawn.functions) drawn.functions; predicates = longer_same drawn.predicates } in
     let stands : Known preds drawn words = subst (λ (x : SignatureValue). Known preds x words) (sym is) (words_known preds empty words) in
     record {
-      clauses_are = clauses ∙ clauses_stay preds drawn last 1 count words stands longer ∙ ap (λ (x : SignatureValue). clauses_of preds x 1 count words) (sym signature);
+      clauses_are = clauses ∙ clauses_stay preds drawn last 1 count words stands longer ∙ ap (λ (x : SignatureValue). made_clauses preds x 1 count words) (sym signature);
       functions = ap (λ (x : SignatureValue). x.functions) signature ∙ ap with_constant functions_are;
       predicates = ap (λ (x : SignatureValue). x.predicates) signature ∙ ap (λ (x : SignatureValue). x.predicates) is;
       c0 = c0 ∙ sym (first_constant (with_symbols [] (constants_of words)) (functions_fine words)) ∙ ap (λ (x : List SymbolValue). position_or_len is_constant (with_constant x)) (sym functions_are) ∙ ap (λ (x : SignatureValue). position_or_len is_constant x.functions) (sym signature);

@@ -12,7 +12,7 @@ use Rattle.me_terms.specs.Values.{SymbolValue, SignatureValue, ClauseValue}
 use Rattle.me_terms.specs.declared.atom.Literal.{Literal}
 use Rattle.tptp_cnf.specs.Meaning.{with_symbols}
 use Rattle.tptp_cnf.proofs.Numbering.{Longer, longer_same, longer_on, position_stays, symbol_has, symbol_longer, symbols-append}
-use Rattle.make_problem.specs.Made.{predicate_of, is_positive, constant_of, argument_as, literal_of, predicates_of, constants_of, literals_of, label_of, clauses_of}
+use Rattle.make_problem.specs.Made.{predicate_of, is_made_positive, constant_of, argument_as, literal_of, predicates_of, constants_of, made_literals, made_label, made_clauses}
 use Rattle.make_problem.specs.Drawn.{with_words}
 
 -- the symbols stand in the list
@@ -93,26 +93,26 @@ argument_stays None fs gs h l = refl
 argument_stays (Some s) fs gs h l = ap (λ (n : ℕ). App n Nil) (position_stays (same_symbol s) fs gs h.0 l)
 
 abbrev literal_with : ℕ → ℕ → TermValue → Literal
-literal_with w pred t = record { positive = is_positive w; atom = record { pred = pred; args = Cons t Nil } }
+literal_with w pred t = record { positive = is_made_positive w; atom = record { pred = pred; args = Cons t Nil } }
 
 -- the literals of the words by a longer signature are the same
-pub literals_stay : (preds : ℕ) (s t : SignatureValue) (words : List ℕ) → Known preds s words → LongerSignature s t → literals_of preds s words ≡ literals_of preds t words
+pub literals_stay : (preds : ℕ) (s t : SignatureValue) (words : List ℕ) → Known preds s words → LongerSignature s t → made_literals preds s words ≡ made_literals preds t words
 literals_stay preds s t [] h l = refl
 literals_stay preds s t (w ∷ ws) h l =
     let parts = known_append preds s (w ∷ []) ws h in
     let argument = argument_stays (constant_of w) s.functions t.functions (stand_front (option_to_list (constant_of w)) (constants_of ws) s.functions h.functions) l.functions in
     let pred = position_stays (same_symbol (predicate_of preds w)) s.predicates t.predicates h.predicates.0 l.predicates in
-    ap (λ (n : ℕ). literal_with w n (argument_as s.functions (constant_of w)) ∷ literals_of preds s ws) pred
-    ∙ ap (λ (a : TermValue). literal_with w (number_of (predicate_of preds w) t.predicates) a ∷ literals_of preds s ws) argument
+    ap (λ (n : ℕ). literal_with w n (argument_as s.functions (constant_of w)) ∷ made_literals preds s ws) pred
+    ∙ ap (λ (a : TermValue). literal_with w (number_of (predicate_of preds w) t.predicates) a ∷ made_literals preds s ws) argument
     ∙ ap (λ (ls : List Literal). literal_of preds t w ∷ ls) (literals_stay preds s t ws parts.1 l)
 
 -- and so are the clauses
-pub clauses_stay : (preds : ℕ) (s t : SignatureValue) (n more : ℕ) (words : List ℕ) → Known preds s words → LongerSignature s t → clauses_of preds s n more words ≡ clauses_of preds t n more words
+pub clauses_stay : (preds : ℕ) (s t : SignatureValue) (n more : ℕ) (words : List ℕ) → Known preds s words → LongerSignature s t → made_clauses preds s n more words ≡ made_clauses preds t n more words
 clauses_stay preds s t n zero words h l = refl
 clauses_stay preds s t n (suc more) words h l =
     let parts = known_parts preds s 3 words h in
-    ap (λ (ls : List Literal). (record { number = n; label = label_of n; literals = ls }) ∷ clauses_of preds s (n + 1) more (drop 3 words)) (literals_stay preds s t (take 3 words) parts.0 l)
-    ∙ ap (λ (cs : List ClauseValue). (record { number = n; label = label_of n; literals = literals_of preds t (take 3 words) }) ∷ cs) (clauses_stay preds s t (n + 1) more (drop 3 words) parts.1 l)
+    ap (λ (ls : List Literal). (record { number = n; label = made_label n; literals = ls }) ∷ made_clauses preds s (n + 1) more (drop 3 words)) (literals_stay preds s t (take 3 words) parts.0 l)
+    ∙ ap (λ (cs : List ClauseValue). (record { number = n; label = made_label n; literals = made_literals preds t (take 3 words) }) ∷ cs) (clauses_stay preds s t (n + 1) more (drop 3 words) parts.1 l)
 
 -- ---- signatures as words are drawn
 
@@ -128,7 +128,7 @@ pub words_longer : (preds : ℕ) (s : SignatureValue) (words : List ℕ) → Lon
 words_longer preds s words = record { functions = symbols_longer (constants_of words) s.functions; predicates = symbols_longer (predicates_of preds words) s.predicates }
 
 -- the literals of drawn words are those by the signature after further words
-pub literals_settled : (preds : ℕ) (s last : SignatureValue) (xs ys : List ℕ) → with_words preds s (xs ++ ys) ≡ last → literals_of preds (with_words preds s xs) xs ≡ literals_of preds last xs
+pub literals_settled : (preds : ℕ) (s last : SignatureValue) (xs ys : List ℕ) → with_words preds s (xs ++ ys) ≡ last → made_literals preds (with_words preds s xs) xs ≡ made_literals preds last xs
 literals_settled preds s last xs ys h =
     let now : SignatureValue = with_words preds s xs in
     let longer : LongerSignature now last = subst (LongerSignature now) (sym (words-append preds s xs ys) ∙ h) (words_longer preds now ys) in

@@ -21,8 +21,8 @@ abbrev pub predicate_of : ℕ → ℕ → SymbolValue
 predicate_of preds w = symbol (word (codes "p" ++ decimal (w % preds))) 1
 
 -- The literal is negative where bit 16 is set.
-abbrev pub is_positive : ℕ → Bool
-is_positive w = eqb (w / 65536 % 2) 0
+abbrev pub is_made_positive : ℕ → Bool
+is_made_positive w = eqb (w / 65536 % 2) 0
 
 -- Of four choices, the first is the constant `a` and the second the constant `b`; the others are no constant.
 abbrev pub constant_by : ℕ → Option SymbolValue
@@ -42,7 +42,7 @@ argument_as functions None = Var 0
 -- The literal of a word.
 abbrev pub literal_of : ℕ → SignatureValue → ℕ → Literal
 literal_of preds signature w = record {
-  positive = is_positive w;
+  positive = is_made_positive w;
   atom = record {
     pred = number_of (predicate_of preds w) signature.predicates;
     args = Cons (argument_as signature.functions (constant_of w)) Nil;
@@ -60,23 +60,23 @@ abbrev pub constants_of : List ℕ → List SymbolValue
 constants_of words = flat_map (λ w. option_to_list (constant_of w)) words
 
 -- The literals of the words.
-abbrev pub literals_of : ℕ → SignatureValue → List ℕ → List Literal
-literals_of preds signature words = map (literal_of preds signature) words
+abbrev pub made_literals : ℕ → SignatureValue → List ℕ → List Literal
+made_literals preds signature words = map (literal_of preds signature) words
 
 -- A clause is labelled by `g` and its number.
-abbrev pub label_of : ℕ → LabelValue
-label_of number = word (codes "g" ++ decimal number)
+abbrev pub made_label : ℕ → LabelValue
+made_label number = word (codes "g" ++ decimal number)
 
 -- So many clauses, the first of which has this number. Each takes three words.
-abbrev pub clauses_of : ℕ → SignatureValue → ℕ → ℕ → List ℕ → List ClauseValue
-clauses_of preds signature number zero words = []
-clauses_of preds signature number (suc more) words =
-    (record { number = number; label = label_of number; literals = literals_of preds signature (take 3 words) })
-    ∷ clauses_of preds signature (number + 1) more (drop 3 words)
+abbrev pub made_clauses : ℕ → SignatureValue → ℕ → ℕ → List ℕ → List ClauseValue
+made_clauses preds signature number zero words = []
+made_clauses preds signature number (suc more) words =
+    (record { number = number; label = made_label number; literals = made_literals preds signature (take 3 words) })
+    ∷ made_clauses preds signature (number + 1) more (drop 3 words)
 
 -- The problem has the clauses of the seed's words, numbered from 1. Its symbols are numbered by first occurrence, and c0 is the first constant, as for a file.
 pub record IsMade (seed preds clauses : ℕ) (problem : ProblemValue) : Type 0 where
-  pub clauses_are : problem.clauses ≡ clauses_of preds problem.signature 1 clauses (words_of seed (3 * clauses))
+  pub clauses_are : problem.clauses ≡ made_clauses preds problem.signature 1 clauses (words_of seed (3 * clauses))
   pub functions : problem.signature.functions ≡ with_constant (with_symbols [] (constants_of (words_of seed (3 * clauses))))
   pub predicates : problem.signature.predicates ≡ with_symbols [] (predicates_of preds (words_of seed (3 * clauses)))
   pub c0 : problem.c0 ≡ position_or_len is_constant problem.signature.functions

@@ -1,24 +1,28 @@
 //! Clauses that are drawn.
 //!
-//! Three words in turn are a clause, and one word is a literal.
-ghost use Rattle.std.specs.Prelude.{◌≡◌, ◌≤◌, ◌*◌, [], ◌∷◌, length, option_to_list, OnOk, IfOk};
+//! Three words in turn are a clause, and one word is a literal. A symbol is added where a literal has it
+//! first.
+ghost use Rattle.std.specs.Prelude.{◌≡◌, ◌≤◌, ◌<◌, ◌*◌, ◌-◌, ◌^◌, [], ◌∷◌, length, option_to_list, OnOk, IfOk};
 ghost use Rattle.me_terms.specs.TermViews.{term_value};
 ghost use Rattle.tptp_cnf.specs.Meaning.{with_symbols};
-ghost use Rattle.make_problem.specs.Drawn.{with_words};
+ghost use Rattle.make_problem.specs.Drawn.{with_words, HasRoom};
 ghost use Rattle.make_problem.specs.Made as made;
+ghost use Rattle.make_problem.specs.declared.limits.TheConstants.{MAX_MADE_CLAUSES, CLAUSE_LITERALS};
 
-use crate::{symbols, word};
+use crate::limits::{CLAUSE_LITERALS, MAX_MADE_CLAUSES};
+use crate::word;
 use me_terms::{Atom, Clause, Clauses, Literal, Literals, Signature, Term, Terms};
 use std::alloc::{AllocError, Global};
 
 /// The argument of the word.
 fn argument(alloc: Global, signature: &mut Signature, word: u32) -> Result<Term, AllocError>
+    requires { length signature.old.functions < 2 ^ 32 - 1 }
     ensures made { IfOk result (λ t. term_value t ≡ made.argument_as signature.new.functions (made.constant_of word)) }
     ensures added { OnOk result (signature.new ≡ record signature.old { functions = with_symbols signature.old.functions (option_to_list (made.constant_of word)) }) }
 {
     match word::constant(alloc, word)? {
         Some(symbol) => {
-            let f = symbols::function(signature, symbol)?;
+            let f = signature.add_fun(symbol)?;
             Ok(Term::App {
                 f,
                 args: Terms::new(alloc),
@@ -46,11 +50,12 @@ fn literal(
     signature: &mut Signature,
     word: u32,
 ) -> Result<Literal, AllocError>
-    requires { 1 ≤ preds }
+    requires preds { 1 ≤ preds }
+    requires room { HasRoom signature.old 1 }
     ensures made { IfOk result (λ l. l ≡ made.literal_of preds signature.new word) }
     ensures added { OnOk result (signature.new ≡ with_words preds signature.old (word ∷ [])) }
 {
-    let pred = symbols::predicate(signature, word::predicate(alloc, preds, word)?)?;
+    let pred = signature.add_pred(word::predicate(alloc, preds, word)?)?;
     let args = only(alloc, argument(alloc, signature, word)?)?;
     Ok(Literal {
         positive: word::is_positive(word),
@@ -65,8 +70,9 @@ fn literals(
     signature: &mut Signature,
     words: &[u32],
 ) -> Result<Literals, AllocError>
-    requires { 1 ≤ preds }
-    ensures made { IfOk result (λ ls. ls.items ≡ made.literals_of preds signature.new words.now) }
+    requires preds { 1 ≤ preds }
+    requires room { HasRoom signature.old (length words.now) }
+    ensures made { IfOk result (λ ls. ls.items ≡ made.made_literals preds signature.new words.now) }
     ensures added { OnOk result (signature.new ≡ with_words preds signature.old words.now) }
 {
     let mut literals = Literals::new(alloc);
@@ -88,18 +94,24 @@ pub(crate) fn drawn_clauses(
     words: &[u32],
 ) -> Result<Clauses, AllocError>
     requires preds { 1 ≤ preds }
-    requires words { length words.now ≡ 3 * count }
-    requires count { count ≤ 100000 }
-    ensures made { IfOk result (λ cs. cs.items ≡ made.clauses_of preds signature.new 1 count words.now) }
+    requires words { length words.now ≡ CLAUSE_LITERALS * count }
+    requires count { count ≤ MAX_MADE_CLAUSES }
+    requires room { HasRoom signature.old (length words.now) }
+    ensures made { IfOk result (λ cs. cs.items ≡ made.made_clauses preds signature.new 1 count words.now) }
     ensures added { OnOk result (signature.new ≡ with_words preds signature.old words.now) }
 {
     let mut clauses = Clauses::new(alloc);
     'clauses: for k in 0..count {
-        let from = 3 * k as usize;
+        let from = CLAUSE_LITERALS * k as usize;
         let clause = Clause {
             number: k + 1,
             label: word::numbered(alloc, b"g", k + 1)?,
-            literals: literals(alloc, preds, signature, &words[from..from + 3])?,
+            literals: literals(
+                alloc,
+                preds,
+                signature,
+                &words[from..from + CLAUSE_LITERALS],
+            )?,
         };
         if clauses.push(clause).is_err() {
             return Err(AllocError);

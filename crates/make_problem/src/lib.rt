@@ -5,11 +5,9 @@
 #![tactic(auto)]
 
 mod clauses;
+mod limits;
 mod problem;
-mod symbols;
 mod word;
 
+pub use limits::{MAX_MADE_CLAUSES, MAX_MADE_PREDICATES};
 pub use problem::make;
-
-#[cfg(test)]
-mod tests;

@@ -9,27 +9,22 @@ use itoa::Buffer;
 use me_terms::{Form, Label, Symbol, Text};
 use std::alloc::{AllocError, Global};
 
-/// Puts bytes at the end.
-fn push_bytes(text: &mut Text, bytes: &[u8]) -> Result<(), AllocError>
-    ensures { OnOk result (text.new.items ≡ text.old.items ++ bytes.now) }
-{
-    'bytes: for byte in bytes {
-        if text.push(*byte).is_err() {
-            return Err(AllocError);
-        }
-    }
-    Ok(())
-}
+/// The place value of the bit that makes a literal negative.
+const SIGN_BIT: u32 = 65_536;
+
+/// The place value of the two bits that choose the argument.
+const ARGUMENT_BITS: u32 = 131_072;
+
+/// The number of choices of an argument: the constant `a`, the constant `b`, and twice the variable.
+const ARGUMENTS: u32 = 4;
 
 /// The word of these bytes.
 pub(crate) fn name(alloc: Global, bytes: &[u8]) -> Result<Label, AllocError>
     ensures { IfOk result (λ label. label ≡ word_label bytes.now) }
 {
-    let mut text = Text::new(alloc);
-    push_bytes(&mut text, bytes)?;
     Ok(Label {
         form: Form::Word,
-        text,
+        text: Text::from_slice(bytes, alloc)?,
     })
 }
 
@@ -39,7 +34,9 @@ pub(crate) fn numbered(alloc: Global, bytes: &[u8], number: u32) -> Result<Label
 {
     let mut buffer = Buffer::new();
     let mut label = name(alloc, bytes)?;
-    push_bytes(&mut label.text, buffer.format(number).as_bytes())?;
+    label
+        .text
+        .extend_from_slice(buffer.format(number).as_bytes())?;
     Ok(label)
 }
 
@@ -56,9 +53,9 @@ pub(crate) fn predicate(alloc: Global, preds: u32, word: u32) -> Result<Symbol, 
 
 /// Whether the literal of the word is positive.
 pub(crate) fn is_positive(word: u32) -> bool
-    ensures { result ≡ made.is_positive word }
+    ensures { result ≡ made.is_made_positive word }
 {
-    word / 65_536 % 2 == 0
+    word / SIGN_BIT % 2 == 0
 }
 
 /// The constant of these bytes.
@@ -75,7 +72,7 @@ pub(crate) fn constant_named(alloc: Global, bytes: &[u8]) -> Result<Symbol, Allo
 pub(crate) fn constant(alloc: Global, word: u32) -> Result<Option<Symbol>, AllocError>
     ensures { IfOk result (λ symbol. symbol ≡ made.constant_of word) }
 {
-    match word / 131_072 % 4 {
+    match word / ARGUMENT_BITS % ARGUMENTS {
         0 => Ok(Some(constant_named(alloc, b"a")?)),
         1 => Ok(Some(constant_named(alloc, b"b")?)),
         _ => Ok(None),

@@ -2,35 +2,32 @@
 use Rattle.std.proofs.Common.{◌≡◌, ℕ, ◌<◌, ◌≤◌, ◌⊎◌, inl, inr, List, [], ◌∷◌, ◌++◌, length, length-append, Option, Some, None, slice_get, refl, sym, ◌∙◌, subst, arith}
 use Rattle.std.proofs.lemmas.Option.{slice_get_within}
 use Rattle.me_terms.specs.Values.{EntryValue}
-use Rattle.me_terms.specs.Context.{Context, StandsAt, Hides, IsHidden, IsVisible, IsContext, IsLiteralEntry, add}
+use Rattle.me_terms.specs.Context.{Context, StandsAt, Covers, Hides, IsHidden, IsVisible, IsContext, IsLiteralEntry, add}
 use Rattle.std.proofs.lemmas.List.{map_push}
 use Rattle.me_terms.specs.Sequences.{SequenceValue}
 use Rattle.me_context.specs.Views.{items_of}
-use Rattle.me_context.specs.Hiding.{Covers, IsMember, IsNewlyHidden, marked, IsFirstHider, AreHidden}
+use Rattle.me_terms.specs.declared.bounds.TheConstants.{MAX_ENTRIES}
+use Rattle.me_context.specs.Hiding.{IsMember, IsNewlyHidden, with_marks, IsFirstHider, AreHidden}
 use Rattle.me_context.proofs.Marks.{member_or_not, length_marked, marked_member, marked_other, push_old, push_end, push_cases, at_below}
 
 pub lift : (context : Context) (e : EntryValue) (k : ℕ) (f : EntryValue) (j : ℕ) (later : EntryValue) → Hides context k f j later → Hides (add context e) k f j later
 lift context e k f j later h = record {
   is_later = h.is_later;
   stands = push_old context e j later h.stands;
-  universal = h.universal;
-  same_sign = h.same_sign;
-  generalizes = h.generalizes;
+  covers = h.covers;
 }
 
 pub lower : (context : Context) (e : EntryValue) (k : ℕ) (f : EntryValue) (j : ℕ) (later : EntryValue) → Hides (add context e) k f j later → StandsAt context j later → Hides context k f j later
 lower context e k f j later h stands = record {
   is_later = h.is_later;
   stands = stands;
-  universal = h.universal;
-  same_sign = h.same_sign;
-  generalizes = h.generalizes;
+  covers = h.covers;
 }
 
 covers_of : (context : Context) (k : ℕ) (f : EntryValue) (j : ℕ) (later e : EntryValue) → Hides context k f j later → e ≡ later → Covers e f
 covers_of context k f j later e h same =
     let P : EntryValue → Type 0 = λ x. Covers x f in
-    subst P (sym same) (record { universal = h.universal; same_sign = h.same_sign; generalizes = h.generalizes })
+    subst P (sym same) h.covers
 
 pub add_is_context : (context : Context) (e : EntryValue) → IsContext context → IsLiteralEntry e → IsContext (add context e)
 add_is_context context e h literal = record {
@@ -46,7 +43,7 @@ module _ (context : Context) (hidden_by : List (Option ℕ)) (hides : List (List
   n = length context
 
   abbrev marks : List (Option ℕ)
-  marks = marked hidden_by ks (Some n)
+  marks = with_marks hidden_by ks (Some n)
 
   -- the ways in which a position has its mark
   abbrev Ways : ℕ → Option ℕ → Type 0
@@ -104,9 +101,7 @@ module _ (context : Context) (hidden_by : List (Option ℕ)) (hides : List (List
           record {
             is_later = slice_get_within context k f stands;
             stands = push_end context e n refl;
-            universal = covers.universal;
-            same_sign = covers.same_sign;
-            generalizes = covers.generalizes;
+            covers = covers;
           },
         );
         first = λ i later hider. elim (push_cases context e i later hider.stands) as (λ _. n ≤ i) [
@@ -202,17 +197,17 @@ module _ (context : Context) (hidden_by : List (Option ℕ)) (hides : List (List
 -- what is kept of a context with its lists, after an entry is put at the end of each
 pub record IsKept (context : Context) (hidden_by : List (Option ℕ)) (hides : List (SequenceValue ℕ)) : Type 0 where
   pub lawful : IsContext context
-  pub few : length context ≤ 65535
+  pub few : length context ≤ MAX_ENTRIES
   pub hidden : AreHidden context hidden_by (items_of hides)
 
-pub kept_of : (context : Context) (hidden_by : List (Option ℕ)) (hides : List (SequenceValue ℕ)) → IsContext context × (length context ≤ 65535) × AreHidden context hidden_by (items_of hides) → IsKept context hidden_by hides
+pub kept_of : (context : Context) (hidden_by : List (Option ℕ)) (hides : List (SequenceValue ℕ)) → IsContext context × (length context ≤ MAX_ENTRIES) × AreHidden context hidden_by (items_of hides) → IsKept context hidden_by hides
 kept_of context hidden_by hides h = record { lawful = h.0; few = h.1; hidden = h.2 }
 
 pub added : (context after : Context) (by marks by_after : List (Option ℕ)) (hides hides_after : List (SequenceValue ℕ)) (e : EntryValue) (places : SequenceValue ℕ) →
-    IsKept context by hides → IsLiteralEntry e → length context < 65535 →
+    IsKept context by hides → IsLiteralEntry e → length context < MAX_ENTRIES →
     ((k : ℕ) → IsMember k places.items → IsNewlyHidden context by e k) → ((k : ℕ) → IsNewlyHidden context by e k → IsMember k places.items) →
-    after ≡ add context e → marks ≡ marked by places.items (Some (length context)) → by_after ≡ marks ++ None ∷ [] → hides_after ≡ hides ++ places ∷ [] →
-    IsContext after × (length after ≤ 65535) × AreHidden after by_after (items_of hides_after)
+    after ≡ add context e → marks ≡ with_marks by places.items (Some (length context)) → by_after ≡ marks ++ None ∷ [] → hides_after ≡ hides ++ places ∷ [] →
+    IsContext after × (length after ≤ MAX_ENTRIES) × AreHidden after by_after (items_of hides_after)
 added context after by marks by_after hides hides_after e places kept literal room only_these all_these is_after is_marks is_by is_hides =
     let hidden = add_hidden context by (items_of hides) e places.items kept.hidden only_these all_these in
     let lists : items_of hides_after ≡ items_of hides ++ places.items ∷ [] = rw is_hides (map_push (λ l. l.items) hides places) in

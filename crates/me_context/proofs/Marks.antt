@@ -1,9 +1,9 @@
 -- Lists of positions, and what stands where after marks and after an item more.
-use Rattle.std.proofs.Common.{◌≡◌, ℕ, zero, suc, ◌<◌, ◌+◌, ◌⊎◌, inl, inr, List, [], ◌∷◌, ◌++◌, length, get_or, drop, drop-cons, Option, Some, None, slice_get, refl, sym, ap, ◌∙◌, subst, arith}
+use Rattle.std.proofs.Common.{◌≡◌, ℕ, zero, suc, ◌<◌, ◌+◌, ◌⊎◌, inl, inr, List, [], ◌∷◌, ◌++◌, length, get_or, drop, Option, Some, slice_get, refl, ap, ◌∙◌, subst, arith}
 use Rattle.std.specs.Prelude.{slice_set}
 use Rattle.std.proofs.lemmas.List.{length-set}
 use Rattle.std.proofs.lemmas.Option.{same_Some}
-use Rattle.me_context.specs.Hiding.{IsMember, AreBelow, marked}
+use Rattle.me_context.specs.Hiding.{IsMember, AreBelow, with_marks}
 
 same_or_not : (i j : ℕ) → (i ≡ j) ⊎ (¬ (i ≡ j))
 same_or_not zero zero = inl refl
@@ -63,7 +63,7 @@ below_step n [] i h lt = absurd (omega arith)
 below_step n (x ∷ ks) zero h lt = h
 below_step n (x ∷ ks) (suc i) h lt = below_step n ks i h (omega arith)
 
-pub marked_step : (xs : List (Option ℕ)) (ks : List ℕ) (i : ℕ) (v : Option ℕ) → i < length ks → marked xs (drop i ks) v ≡ marked (slice_set xs (get_or ks i 0) v) (drop (suc i) ks) v
+pub marked_step : (xs : List (Option ℕ)) (ks : List ℕ) (i : ℕ) (v : Option ℕ) → i < length ks → with_marks xs (drop i ks) v ≡ with_marks (slice_set xs (get_or ks i 0) v) (drop (suc i) ks) v
 marked_step xs [] i v lt = absurd (omega arith)
 marked_step xs (x ∷ ks) zero v lt = refl
 marked_step xs (x ∷ ks) (suc i) v lt = marked_step xs ks i v (omega arith)
@@ -89,20 +89,20 @@ set_kept (x ∷ xs) zero (suc i) v h = h
 set_kept (x ∷ xs) (suc k) zero v h = h
 set_kept (x ∷ xs) (suc k) (suc i) v h = set_kept xs k i v h
 
-pub length_marked : (xs : List (Option ℕ)) (ks : List ℕ) (v : Option ℕ) → length (marked xs ks v) ≡ length xs
+pub length_marked : (xs : List (Option ℕ)) (ks : List ℕ) (v : Option ℕ) → length (with_marks xs ks v) ≡ length xs
 length_marked xs [] v = refl
 length_marked xs (k ∷ ks) v = length_marked (slice_set xs k v) ks v ∙ length-set xs k v
 
-marked_kept : (xs : List (Option ℕ)) (ks : List ℕ) (v : Option ℕ) (i : ℕ) → slice_get xs i ≡ Some v → slice_get (marked xs ks v) i ≡ Some v
+marked_kept : (xs : List (Option ℕ)) (ks : List ℕ) (v : Option ℕ) (i : ℕ) → slice_get xs i ≡ Some v → slice_get (with_marks xs ks v) i ≡ Some v
 marked_kept xs [] v i h = h
 marked_kept xs (k ∷ ks) v i h = marked_kept (slice_set xs k v) ks v i (set_kept xs k i v h)
 
-pub marked_member : (xs : List (Option ℕ)) (ks : List ℕ) (v : Option ℕ) (i : ℕ) → IsMember i ks → i < length xs → slice_get (marked xs ks v) i ≡ Some v
+pub marked_member : (xs : List (Option ℕ)) (ks : List ℕ) (v : Option ℕ) (i : ℕ) → IsMember i ks → i < length xs → slice_get (with_marks xs ks v) i ≡ Some v
 marked_member xs [] v i m lt = absurd m
 marked_member xs (k ∷ ks) v i (inl e) lt = marked_kept (slice_set xs k v) ks v i (set_here xs k i v e lt)
 marked_member xs (k ∷ ks) v i (inr m) lt = marked_member (slice_set xs k v) ks v i m (omega (arith, length-set xs k v))
 
-pub marked_other : (xs : List (Option ℕ)) (ks : List ℕ) (v : Option ℕ) (i : ℕ) → ¬ IsMember i ks → slice_get (marked xs ks v) i ≡ slice_get xs i
+pub marked_other : (xs : List (Option ℕ)) (ks : List ℕ) (v : Option ℕ) (i : ℕ) → ¬ IsMember i ks → slice_get (with_marks xs ks v) i ≡ slice_get xs i
 marked_other xs [] v i m = refl
 marked_other xs (k ∷ ks) v i m =
     marked_other (slice_set xs k v) ks v i (λ h. m (inr h)) ∙ set_other xs k i v (λ e. m (inl e))

@@ -1,9 +1,10 @@
 -- What is hidden, and by which entry first, after the last entry is taken off.
-use Rattle.std.proofs.Common.{◌≡◌, ℕ, ◌<◌, ◌+◌, ◌⊎◌, inl, inr, List, [], ◌∷◌, ◌++◌, length, length-append, ◌≤◌, Option, Some, None, slice_get, refl, sym, ◌∙◌, subst, arith}
+use Rattle.std.proofs.Common.{◌≡◌, ℕ, ◌<◌, ◌+◌, ◌⊎◌, inl, inr, List, [], ◌∷◌, ◌++◌, length, length-append, ◌≤◌, Option, Some, None, slice_get, sym, ◌∙◌, subst, arith}
 use Rattle.std.proofs.lemmas.Option.{slice_get_within}
 use Rattle.me_terms.specs.Values.{EntryValue}
 use Rattle.me_terms.specs.Context.{Context, StandsAt, IsHidden, IsContext, pseudo, add}
-use Rattle.me_context.specs.Hiding.{IsMember, AreBelow, marked, IsFirstHider, AreHidden}
+use Rattle.me_terms.specs.declared.bounds.TheConstants.{MAX_ENTRIES}
+use Rattle.me_context.specs.Hiding.{IsMember, AreBelow, with_marks, IsFirstHider, AreHidden}
 use Rattle.me_context.proofs.Marks.{member_or_not, all_below, length_marked, marked_member, marked_other, push_old, push_end, push_cases, at_below}
 use Rattle.std.proofs.lemmas.List.{map_push}
 use Rattle.me_terms.specs.Sequences.{SequenceValue}
@@ -40,16 +41,16 @@ module _ (context : Context) (e : EntryValue) (hidden_by : List (Option ℕ)) (b
   abbrev Ways : ℕ → Option ℕ → Type 0
   Ways k v = (IsMember k ks × (v ≡ None)) ⊎ ((¬ IsMember k ks) × (slice_get (hidden_by ++ b ∷ []) k ≡ Some v))
 
-  ways : (k : ℕ) (v : Option ℕ) → slice_get (marked hidden_by ks None) k ≡ Some v → Ways k v
+  ways : (k : ℕ) (v : Option ℕ) → slice_get (with_marks hidden_by ks None) k ≡ Some v → Ways k v
   ways k v g =
       elim (member_or_not k ks) as (λ _. Ways k v) [
         | inl m ↦
-            let is : slice_get (marked hidden_by ks None) k ≡ Some None = marked_member hidden_by ks None k m (omega (arith, hider k n (by_last k m), as_many)) in
+            let is : slice_get (with_marks hidden_by ks None) k ≡ Some None = marked_member hidden_by ks None k m (omega (arith, hider k n (by_last k m), as_many)) in
             inl (m, cc)
         | inr apart ↦ inr (apart, push_old hidden_by b k v (sym (marked_other hidden_by ks None k apart) ∙ g))
       ]
 
-  shown_now : (k : ℕ) (f : EntryValue) → StandsAt context k f → slice_get (marked hidden_by ks None) k ≡ Some None → ¬ IsHidden context k f
+  shown_now : (k : ℕ) (f : EntryValue) → StandsAt context k f → slice_get (with_marks hidden_by ks None) k ≡ Some None → ¬ IsHidden context k f
   shown_now k f stands g hidden =
       let above = lift context e k f hidden.0 hidden.1 hidden.2 in
       elim (ways k None g) as (λ _. ⊥) [
@@ -57,7 +58,7 @@ module _ (context : Context) (e : EntryValue) (hidden_by : List (Option ℕ)) (b
         | inr old ↦ h.shown k f (push_old context e k f stands) old.1 (hidden.0, hidden.1, above)
       ]
 
-  hidden_now : (k j : ℕ) (f : EntryValue) → StandsAt context k f → slice_get (marked hidden_by ks None) k ≡ Some (Some j) → IsFirstHider context k f j
+  hidden_now : (k j : ℕ) (f : EntryValue) → StandsAt context k f → slice_get (with_marks hidden_by ks None) k ≡ Some (Some j) → IsFirstHider context k f j
   hidden_now k j f stands g =
       elim (ways k (Some j) g) as (λ _. IsFirstHider context k f j) [
         | inl m ↦ let apart : Some j ≡ None = m.1 in cc
@@ -72,24 +73,24 @@ module _ (context : Context) (e : EntryValue) (hidden_by : List (Option ℕ)) (b
             ]
       ]
 
-  listed_now : (j k : ℕ) (l : List ℕ) → slice_get hides j ≡ Some l → slice_get (marked hidden_by ks None) k ≡ Some (Some j) → IsMember k l
+  listed_now : (j k : ℕ) (l : List ℕ) → slice_get hides j ≡ Some l → slice_get (with_marks hidden_by ks None) k ≡ Some (Some j) → IsMember k l
   listed_now j k l at g =
       elim (ways k (Some j) g) as (λ _. IsMember k l) [
         | inl m ↦ let apart : Some j ≡ None = m.1 in cc
         | inr old ↦ h.listed j k l (push_old hides ks j l at) old.1
       ]
 
-  only_now : (j k : ℕ) (l : List ℕ) → slice_get hides j ≡ Some l → IsMember k l → slice_get (marked hidden_by ks None) k ≡ Some (Some j)
+  only_now : (j k : ℕ) (l : List ℕ) → slice_get hides j ≡ Some l → IsMember k l → slice_get (with_marks hidden_by ks None) k ≡ Some (Some j)
   only_now j k l at m =
       let was : slice_get (hidden_by ++ b ∷ []) k ≡ Some (Some j) = h.only j k l (push_old hides ks j l at) m in
       let early : j < n = omega (arith, slice_get_within hides j l at, lists) in
       let apart : ¬ IsMember k ks = λ here. (let last : slice_get (hidden_by ++ b ∷ []) k ≡ Some (Some n) = by_last k here in let same : j ≡ n = cc in omega (arith, same, early)) in
-      elim (push_cases hidden_by b k (Some j) was) as (λ _. slice_get (marked hidden_by ks None) k ≡ Some (Some j)) [
+      elim (push_cases hidden_by b k (Some j) was) as (λ _. slice_get (with_marks hidden_by ks None) k ≡ Some (Some j)) [
         | inl old ↦ marked_other hidden_by ks None k apart ∙ old
         | inr end ↦ absurd (omega (arith, end.0, as_many, hider k j was, early))
       ]
 
-  pub pop_hidden : AreHidden context (marked hidden_by ks None) hides
+  pub pop_hidden : AreHidden context (with_marks hidden_by ks None) hides
   pop_hidden = record {
     each_by = length_marked hidden_by ks None ∙ as_many;
     each_list = sym lists;
@@ -113,7 +114,7 @@ module _ (before context : Context) (by_before by : List (Option ℕ)) (hides_be
   pub may_mark : AreBelow (length by) places.items
   may_mark = popped_below context e by b (items_of hides) places.items whole
 
-  pub popped : 1 < length before → (marks : List (Option ℕ)) → marks ≡ marked by places.items None → IsContext context × (length context ≤ 65535) × AreHidden context marks (items_of hides)
+  pub popped : 1 < length before → (marks : List (Option ℕ)) → marks ≡ with_marks by places.items None → IsContext context × (length context ≤ MAX_ENTRIES) × AreHidden context marks (items_of hides)
   popped some marks is_marks =
       let lawful : IsContext (add context e) = subst (λ (x : Context). IsContext x) is_before kept.lawful in
       let long : length before ≡ length context + 1 = rw is_before (length-append context (e ∷ [])) in

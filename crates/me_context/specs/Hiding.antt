@@ -1,16 +1,8 @@
 -- What is kept of a context: by which later entry each entry is hidden first, and which ones each was the first to hide.
 use Rattle.std.specs.Prelude.{◌≡◌, ℕ, ◌<◌, ◌≤◌, ◌⊎◌, List, [], ◌∷◌, length, slice_get, Option, Some, None}
 use Rattle.std.specs.Prelude.{slice_set}
-use Rattle.me_terms.specs.Substitutions.{Generalizes}
 use Rattle.me_terms.specs.Values.{EntryValue}
-use Rattle.me_terms.specs.Context.{Context, StandsAt, Hides, IsHidden}
-use Rattle.me_terms.specs.declared.entry.Kind.TheVariants.{Universal}
-
--- The later entry hides the earlier one: it is Universal, of its sign, and generalizes it.
-pub record Covers (later earlier : EntryValue) : Type 0 where
-  pub universal : later.kind ≡ Universal
-  pub same_sign : later.positive ≡ earlier.positive
-  pub generalizes : Generalizes later.atom earlier.atom
+use Rattle.me_terms.specs.Context.{Context, StandsAt, Covers, Hides, IsHidden}
 
 -- The list has the number.
 abbrev pub IsMember : ℕ → List ℕ → Type 0
@@ -28,9 +20,9 @@ IsNewlyHidden context hidden_by later k =
     (e : EntryValue) × StandsAt context k e × (slice_get hidden_by k ≡ Some None) × Covers later e
 
 -- The list with the value at each of these places.
-abbrev pub marked : List (Option ℕ) → List ℕ → Option ℕ → List (Option ℕ)
-marked xs [] value = xs
-marked xs (k ∷ ks) value = marked (slice_set xs k value) ks value
+abbrev pub with_marks : List (Option ℕ) → List ℕ → Option ℕ → List (Option ℕ)
+with_marks xs [] value = xs
+with_marks xs (k ∷ ks) value = with_marks (slice_set xs k value) ks value
 
 -- Entry e at position k is hidden by the one at position j, and by none between.
 pub record IsFirstHider (context : Context) (k : ℕ) (e : EntryValue) (j : ℕ) : Type 0 where

@@ -2,13 +2,15 @@
 //!
 //! A contract sees a `Context` as its list of entries. What is visible is told in constant time: it is kept
 //! beside the entries, and `add` and `pop` change it exactly where it changes.
-ghost use Rattle.std.specs.Prelude.{◌≡◌, ◌<◌, ◌≤◌, Bool, false, [], ◌∷◌, ◌++◌, length, vec_len, vec_capacity, ◌+◌, ◌↔◌, IsNone, OnOk, OnErr, IfOk, IfErr, IfSome, IsTrue, map};
-ghost use Rattle.me_terms.specs.Context.{IsLiteralEntry, pseudo, add};
+ghost use Rattle.std.specs.Prelude.{◌≡◌, ◌<◌, ◌≤◌, [], ◌∷◌, ◌++◌, length, vec_len, vec_capacity, ◌+◌, ◌↔◌, IsNone, OnOk, OnErr, IfOk, IfErr, IfSome, IsTrue, map};
+ghost use Rattle.me_terms.specs.Context.{IsLiteralEntry, add};
 ghost use Rattle.me_terms.specs.Contradictory.{Contradicts};
+ghost use Rattle.me_terms.specs.Grown as grown;
+ghost use Rattle.me_terms.specs.declared.bounds.TheConstants.{MAX_ENTRIES};
 ghost use Rattle.me_context.specs.Views.{items_of};
 
 use crate::hiding::{is_shown, mark, newly_hidden};
-use me_terms::{Again, Entry, Kind, Pattern, Places, Reason, Refused, Trunk, View};
+use me_terms::{Again, Entry, Kind, Pattern, Places, Reason, Refused, Start, Trunk, View};
 use std::alloc::{AllocError, Global};
 use std::marker::Model;
 
@@ -26,6 +28,7 @@ impl Model for Context {
     ghost use Rattle.me_terms.specs.Terms.{arguments_code};
     ghost use Rattle.me_terms.specs.Values.{EntryValue};
     ghost use Rattle.me_terms.specs.Context.{IsContext};
+    ghost use Rattle.me_terms.specs.declared.bounds.TheConstants.{MAX_ENTRIES};
     ghost use Rattle.me_context.specs.Hiding.{AreHidden};
 
     ghost Value = { List EntryValue };
@@ -36,7 +39,7 @@ impl Model for Context {
 
     ghost use Rattle.me_context.specs.Views.{items_of};
 
-    ghost invariant = { λ c. IsContext c.entries.items × (length c.entries.items ≤ 65535) × AreHidden c.entries.items c.hidden_by.items (items_of c.hides.items) };
+    ghost invariant = { λ c. IsContext c.entries.items × (length c.entries.items ≤ MAX_ENTRIES) × AreHidden c.entries.items c.hidden_by.items (items_of c.hides.items) };
 }
 
 /// Room for one more item in each list, or nothing is changed where memory is out.
@@ -70,19 +73,13 @@ fn take_last<T>(items: &mut Vec<T>) -> T
 }
 
 impl Context {
-    /// The context of the pseudo-literal alone. Later calls that need memory take it from `alloc`.
-    pub fn new(alloc: Global) -> Result<Self, AllocError>
-        ensures { IfOk result (λ context. context ≡ pseudo false ∷ []) }
-    {
-        Self::start(alloc, false)
-    }
-
-    /// The context of the pseudo-literal of a sign.
-    fn start(alloc: Global, positive: bool) -> Result<Self, AllocError>
-        ensures { IfOk result (λ context. context ≡ pseudo positive ∷ []) }
+    /// The context of a start, which is its pseudo-literal alone. Later calls that need memory take it from
+    /// `alloc`.
+    pub fn new(alloc: Global, start: Start) -> Result<Self, AllocError>
+        ensures { IfOk result (λ context. context ≡ grown.start start) }
     {
         let entry = Entry {
-            positive,
+            positive: start == Start::Positive,
             atom: Pattern::Any,
             kind: Kind::Parametric,
             reason: Reason::Pseudo,
@@ -97,11 +94,11 @@ impl Context {
     /// Puts an entry at the end, or hands it back where memory is out.
     ///
     /// The entry is a literal with a canonical atom, Universal where it is ground, and does not contradict
-    /// the context, which has fewer than 65,535 entries.
+    /// the context, which has fewer than `MAX_ENTRIES` entries.
     pub fn add(&mut self, e: Entry) -> Result<(), Refused>
         requires literal { IsLiteralEntry e }
         requires apart { ¬ Contradicts self.old e.positive e.kind e.atom }
-        requires room { length self.old < 65535 }
+        requires room { length self.old < MAX_ENTRIES }
         ensures ok { OnOk result (self.new ≡ add self.old e) }
         ensures err { OnErr result (self.new ≡ self.old) }
         ensures back { IfErr result (λ refused. refused.entry ≡ e) }

@@ -3,35 +3,11 @@
 //! For each entry the first later one that hides it is kept, and for each one the earlier ones that it was
 //! the first to hide. Both lists are changed by the positions that are hidden or shown, and by no others.
 ghost use Rattle.std.specs.Prelude.{◌≡◌, ◌<◌, ◌≤◌, ℕ, length, slice_get, ◌↔◌, IsTrue, IfOk};
-ghost use Rattle.me_terms.specs.Substitutions.{Generalizes};
-ghost use Rattle.me_terms.specs.Values.{EntryValue};
-ghost use Rattle.me_terms.specs.declared.atom.Pattern.TheVariants as pattern;
-ghost use Rattle.me_context.specs.Hiding.{Covers, IsMember, AreBelow, IsNewlyHidden, marked};
+ghost use Rattle.me_terms.specs.declared.bounds.TheConstants.{MAX_ENTRIES};
+ghost use Rattle.me_context.specs.Hiding.{IsMember, AreBelow, IsNewlyHidden, with_marks};
 
-use me_terms::{Entry, Kind, Pattern, Places, matches};
+use me_terms::{Entry, Kind, Places, covers};
 use std::alloc::{AllocError, Global};
-
-/// Whether the first pattern is at least as general as the second.
-fn generalizes(p: &Pattern, q: &Pattern) -> bool
-    ensures { IsTrue result ↔ Generalizes p.now q.now }
-{
-    match q {
-        Pattern::Any => match p {
-            Pattern::Any => true,
-            Pattern::Of(_) => false,
-        },
-        Pattern::Of(atom) => matches(p, atom),
-    }
-}
-
-/// Whether the entry hides an earlier one.
-fn covers(later: &Entry, earlier: &Entry) -> bool
-    ensures { IsTrue result ↔ Covers later.now earlier.now }
-{
-    later.kind == Kind::Universal
-        && later.positive == earlier.positive
-        && generalizes(&later.atom, &earlier.atom)
-}
 
 /// Whether nothing hides the entry at position `k` yet and `later` does.
 fn is_newly_hidden(entries: &[Entry], hidden_by: &[Option<u32>], later: &Entry, k: usize) -> bool
@@ -50,7 +26,7 @@ pub(crate) fn newly_hidden(
     later: &Entry,
 ) -> Result<Places, AllocError>
     requires each { length hidden_by.now ≡ length entries.now }
-    requires few { length entries.now ≤ 65535 }
+    requires few { length entries.now ≤ MAX_ENTRIES }
     ensures only { IfOk result (λ places. (k : ℕ) → IsMember k places.items → IsNewlyHidden entries.now hidden_by.now later.now k) }
     ensures all { IfOk result (λ places. (k : ℕ) → IsNewlyHidden entries.now hidden_by.now later.now k → IsMember k places.items) }
 {
@@ -78,7 +54,7 @@ pub(crate) fn is_shown(hidden_by: &[Option<u32>], k: u32) -> bool
 /// Writes at these places by which entry theirs is hidden, if by any.
 pub(crate) fn mark(hidden_by: &mut [Option<u32>], places: &[u32], by: Option<u32>)
     requires { AreBelow (length hidden_by.old) places.now }
-    ensures { hidden_by.new ≡ marked hidden_by.old places.now by }
+    ensures { hidden_by.new ≡ with_marks hidden_by.old places.now by }
 {
     for place in places {
         hidden_by[*place as usize] = by;

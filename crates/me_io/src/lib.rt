@@ -10,8 +10,6 @@ mod sink;
 mod source;
 mod standard;
 mod supply;
-#[cfg(test)]
-mod tests;
 
 pub use memory::{MemSink, MemSource};
 pub use never::{NeverSink, NeverSource};

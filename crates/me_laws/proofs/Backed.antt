@@ -5,7 +5,7 @@ use Rattle.me_terms.specs.Measures.{complement}
 use Rattle.me_terms.specs.Values.{ProblemValue, EntryValue, Asserted, SplitLeft, SplitRight}
 use Rattle.me_terms.specs.Context.{Context, StandsAt, pseudo, add}
 use Rattle.me_terms.specs.Assert.{IsAssert}
-use Rattle.me_terms.specs.Grown.{start, split_entry, IsGrown, started, asserted, went_left, went_right}
+use Rattle.me_terms.specs.Grown.{sign_of, start, split_entry, IsGrown, started, asserted, went_left, went_right}
 use Rattle.me_terms.specs.declared.bounds.Bounds.{Bounds}
 use Rattle.me_laws.proofs.Added.{get_add, add_cases}
 
@@ -52,17 +52,17 @@ same_reason problem bounds context e c place tuple c' place' tuple' h reason =
     let P : ℕ × ℕ × List ℕ → Type 0 = λ z. IsAssert problem bounds context z.0 z.1 z.2 e in
     subst P (λ n. (i n, j n, k n)) h
 
-start_backed : (problem : ProblemValue) (bounds : Bounds) (positive : Bool) → AreBacked problem bounds (start positive)
-start_backed problem bounds positive zero e c place tuple stands reason =
-    let own = ap (λ (x : EntryValue). x.reason) (same_Some (pseudo positive) e stands) in cc (own, reason)
-start_backed problem bounds positive (suc k) e c place tuple stands reason = cc stands
+start_backed : (problem : ProblemValue) (bounds : Bounds) → AreBacked problem bounds (start bounds.start)
+start_backed problem bounds zero e c place tuple stands reason =
+    let own = ap (λ (x : EntryValue). x.reason) (same_Some (pseudo (sign_of bounds.start)) e stands) in cc (own, reason)
+start_backed problem bounds (suc k) e c place tuple stands reason = cc stands
 
-pub grown_backed : {problem : ProblemValue} {bounds : Bounds} {positive : Bool} {context : Context} → IsGrown problem bounds positive context → AreBacked problem bounds context
-grown_backed {problem} {bounds} {positive} started = start_backed problem bounds positive
-grown_backed {problem} {bounds} {positive} (asserted {context = context} {e = e} h next) =
+pub grown_backed : {problem : ProblemValue} {bounds : Bounds} {context : Context} → IsGrown problem bounds context → AreBacked problem bounds context
+grown_backed {problem} {bounds} started = start_backed problem bounds
+grown_backed {problem} {bounds} (asserted {context = context} {e = e} h next) =
     let least = next.2 in
     add_backed problem bounds context e (grown_backed h) (λ c place tuple reason. same_reason problem bounds context e least.0 least.1 least.2 c place tuple least.3 reason)
-grown_backed {problem} {bounds} {positive} (went_left {context = context} {l = l} {kind = kind} h next) =
+grown_backed {problem} {bounds} (went_left {context = context} {l = l} {kind = kind} h next) =
     add_backed problem bounds context (split_entry l kind SplitLeft) (grown_backed h) (λ c place tuple reason. cc reason)
-grown_backed {problem} {bounds} {positive} (went_right {context = context} {l = l} {kind = kind} h next) =
+grown_backed {problem} {bounds} (went_right {context = context} {l = l} {kind = kind} h next) =
     add_backed problem bounds context (split_entry (complement l) kind SplitRight) (grown_backed h) (λ c place tuple reason. cc reason)

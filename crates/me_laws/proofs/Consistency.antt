@@ -10,9 +10,7 @@ hides_on : (context : Context) (e : EntryValue) (k : ℕ) (f : EntryValue) (j : 
 hides_on context e k f j later h = record {
   is_later = h.is_later;
   stands = add_old context e j later h.stands;
-  universal = h.universal;
-  same_sign = h.same_sign;
-  generalizes = h.generalizes;
+  covers = h.covers;
 }
 
 -- what is visible in the new context was visible, or is the new entry

@@ -75,8 +75,8 @@ pub hidden_decided : (context : Context) (k : ℕ) (e : EntryValue) → IsHidden
 unfolding Covering
 hidden_decided context k e =
     elim (any_entry (Covering k e) (covering_decided k e) context) as (λ _. IsHidden context k e ⊎ (¬ IsHidden context k e)) [
-      | inl h ↦ inl (h.0, h.1, record { is_later = h.3.0.0; stands = h.2; universal = h.3.0.1; same_sign = h.3.1.0; generalizes = h.3.1.1 })
-      | inr none ↦ inr (λ h. none h.0 h.1 h.2.stands ((h.2.is_later, h.2.universal), (h.2.same_sign, h.2.generalizes)))
+      | inl h ↦ inl (h.0, h.1, record { is_later = h.3.0.0; stands = h.2; covers = record { is_universal = h.3.0.1; same_sign = h.3.1.0; generalizes = h.3.1.1 } })
+      | inr none ↦ inr (λ h. none h.0 h.1 h.2.stands ((h.2.is_later, h.2.covers.is_universal), (h.2.covers.same_sign, h.2.covers.generalizes)))
     ]
 
 Excepting : Context → EntryValue → AtomValue → ℕ → EntryValue → Type 0

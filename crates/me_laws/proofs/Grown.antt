@@ -14,8 +14,9 @@ use Rattle.me_terms.specs.Positions.{positions_of, entry_at}
 use Rattle.me_terms.specs.Unifier.{unified}
 use Rattle.me_terms.specs.Assert.{IsAssert, uses_universal}
 use Rattle.me_terms.specs.Next.{Split, IsNext}
-use Rattle.me_terms.specs.Grown.{start, split_entry, IsGrown, started, asserted, went_left, went_right}
+use Rattle.me_terms.specs.Grown.{sign_of, start, split_entry, IsGrown, started, asserted, went_left, went_right}
 use Rattle.me_terms.specs.declared.bounds.Bounds.{Bounds}
+use Rattle.me_terms.specs.declared.bounds.Start.{Start}
 use Rattle.me_terms.specs.declared.entry.Kind.{Kind}
 use Rattle.me_terms.specs.declared.entry.Kind.TheVariants.{Universal, Parametric}
 use Rattle.me_terms.specs.declared.atom.Literal.{Literal}
@@ -138,13 +139,13 @@ pub split_by : (test : Bool) → IsTrue test → cond test Universal Parametric 
 split_by true h = refl
 split_by false h = cc
 
-none_later : (positive : Bool) (k : ℕ) (e : EntryValue) → 0 < k → StandsAt (start positive) k e → IsLiteralEntry e
-none_later positive zero e lt h = absurd (omega arith)
-none_later positive (suc k) e lt h = cc
+none_later : (begins : Start) (k : ℕ) (e : EntryValue) → 0 < k → StandsAt (start begins) k e → IsLiteralEntry e
+none_later begins zero e lt h = absurd (omega arith)
+none_later begins (suc k) e lt h = cc
 
-start_sign : (positive : Bool) (k : ℕ) (e : EntryValue) → StandsAt (start positive) k e → e.positive ≡ positive
-start_sign positive zero e h = sym (ap (λ (f : EntryValue). f.positive) (same_Some (pseudo positive) e h))
-start_sign positive (suc k) e h = cc
+start_sign : (begins : Start) (k : ℕ) (e : EntryValue) → StandsAt (start begins) k e → e.positive ≡ sign_of begins
+start_sign begins zero e h = sym (ap (λ (f : EntryValue). f.positive) (same_Some (pseudo (sign_of begins)) e h))
+start_sign begins (suc k) e h = cc
 
 not_own : (sign : Bool) → ¬ (sign ≡ not sign)
 not_own true h = cc
@@ -167,17 +168,17 @@ split_facts problem bounds context l kind h next =
     let atoms = ap (λ (m : Literal). m.atom) same in
     ((subst Q (sym atoms) (canonical_is (unified least.4.family least.4.literal).atom), λ g. next.4 ∙ split_by (are_ground l.atom.args) g), apart.0, apart.1)
 
-start_context : (positive : Bool) → IsContext (start positive)
-start_context positive = record { first = (positive, refl); later = none_later positive }
+start_context : (begins : Start) → IsContext (start begins)
+start_context begins = record { first = (sign_of begins, refl); later = none_later begins }
 
-start_consistent : (positive : Bool) → IsConsistent (start positive)
-start_consistent positive = λ k e visible h.
-    let mine = start_sign positive k e visible.0 in
-    let theirs = start_sign positive h.0 h.1 h.2.0 in
-    not_own positive (sym theirs ∙ (h.3 ∙ ap not mine))
+start_consistent : (begins : Start) → IsConsistent (start begins)
+start_consistent begins = λ k e visible h.
+    let mine = start_sign begins k e visible.0 in
+    let theirs = start_sign begins h.0 h.1 h.2.0 in
+    not_own (sign_of begins) (sym theirs ∙ (h.3 ∙ ap not mine))
 
-pub grown : {problem : ProblemValue} {bounds : Bounds} {positive : Bool} {context : Context} → IsGrown problem bounds positive context → IsContext context × IsConsistent context
-grown {positive = positive} started = (start_context positive, start_consistent positive)
+pub grown : {problem : ProblemValue} {bounds : Bounds} {context : Context} → IsGrown problem bounds context → IsContext context × IsConsistent context
+grown {bounds = bounds} started = (start_context bounds.start, start_consistent bounds.start)
 grown {problem} {bounds} (asserted {context = context} {e = e} h next) =
     let before = grown h in
     let least = next.2 in

@@ -4,6 +4,7 @@ pub mod Backed
 pub mod CanonicalForm
 pub mod Consistency
 pub mod Decisions
+pub mod Deepened
 pub mod Determined
 pub mod Existence
 pub mod Generality

@@ -264,5 +264,5 @@ outcome_unique {problem} {bounds} (splits {context = context} {l = l} {kind = ki
     let rights = outcome_unique g x.1 x.3 in
     e ∙ ((λ n. both (lefts n) (rights n)) ∙ sym x.4)
 
-pub answer_unique : (problem : ProblemValue) (bounds : Bounds) (positive : Bool) (reply other : AnswerValue) → HasAnswer problem bounds positive reply → HasAnswer problem bounds positive other → reply ≡ other
-answer_unique problem bounds positive reply other f g = f.2 ∙ (ap (answer_of bounds) (outcome_unique f.1 g.0 g.1) ∙ sym g.2)
+pub answer_unique : (problem : ProblemValue) (bounds : Bounds) (reply other : AnswerValue) → HasAnswer problem bounds reply → HasAnswer problem bounds other → reply ≡ other
+answer_unique problem bounds reply other f g = f.2 ∙ (ap (answer_of bounds) (outcome_unique f.1 g.0 g.1) ∙ sym g.2)

@@ -15,45 +15,45 @@ use Rattle.me_laws.proofs.Grown.{grown}
 use Rattle.me_laws.proofs.Model.{exhausted_model}
 
 -- what an outcome says of the context that it gives, if it gives one
-GivesExhausted : ProblemValue → Bounds → Bool → TreeOutcome → Type 0
-GivesExhausted problem bounds positive (Sat context) = IsGrown problem bounds positive context × IsNext problem bounds context Exhausted
-GivesExhausted problem bounds positive (Closed list) = Unit {0}
-GivesExhausted problem bounds positive (Met b) = Unit {0}
+GivesExhausted : ProblemValue → Bounds → TreeOutcome → Type 0
+GivesExhausted problem bounds (Sat context) = IsGrown problem bounds context × IsNext problem bounds context Exhausted
+GivesExhausted problem bounds (Closed list) = Unit {0}
+GivesExhausted problem bounds (Met b) = Unit {0}
 
-both_give : (problem : ProblemValue) (bounds : Bounds) (positive : Bool) (left right : TreeOutcome) → GivesExhausted problem bounds positive left → GivesExhausted problem bounds positive right → GivesExhausted problem bounds positive (both left right)
+both_give : (problem : ProblemValue) (bounds : Bounds) (left right : TreeOutcome) → GivesExhausted problem bounds left → GivesExhausted problem bounds right → GivesExhausted problem bounds (both left right)
 unfolding GivesExhausted
-both_give problem bounds positive (Sat context) right f g = f
-both_give problem bounds positive (Closed list) (Sat context) f g = g
-both_give problem bounds positive (Met b) (Sat context) f g = g
-both_give problem bounds positive (Met b) (Closed list) f g = tt
-both_give problem bounds positive (Met b) (Met c) f g = tt
-both_give problem bounds positive (Closed list) (Met c) f g = tt
-both_give problem bounds positive (Closed list) (Closed more) f g = tt
+both_give problem bounds (Sat context) right f g = f
+both_give problem bounds (Closed list) (Sat context) f g = g
+both_give problem bounds (Met b) (Sat context) f g = g
+both_give problem bounds (Met b) (Closed list) f g = tt
+both_give problem bounds (Met b) (Met c) f g = tt
+both_give problem bounds (Closed list) (Met c) f g = tt
+both_give problem bounds (Closed list) (Closed more) f g = tt
 
-gives : {problem : ProblemValue} {bounds : Bounds} {positive : Bool} {context : Context} {outcome : TreeOutcome} → IsGrown problem bounds positive context → HasOutcome problem bounds context outcome → GivesExhausted problem bounds positive outcome
+gives : {problem : ProblemValue} {bounds : Bounds} {context : Context} {outcome : TreeOutcome} → IsGrown problem bounds context → HasOutcome problem bounds context outcome → GivesExhausted problem bounds outcome
 unfolding GivesExhausted
 gives h (closes next leaf) = tt
 gives h (is_exhausted next) = (h, next)
 gives h (is_bounded next) = tt
 gives h (asserts next later) = gives (asserted h next) later
-gives {problem} {bounds} {positive} h (splits {left = left} {right = right} next f g e) =
-    let P : TreeOutcome → Type 0 = λ o. GivesExhausted problem bounds positive o in
-    subst P (sym e) (both_give problem bounds positive left right (gives (went_left h next) f) (gives (went_right h next) g))
+gives {problem} {bounds} h (splits {left = left} {right = right} next f g e) =
+    let P : TreeOutcome → Type 0 = λ o. GivesExhausted problem bounds o in
+    subst P (sym e) (both_give problem bounds left right (gives (went_left h next) f) (gives (went_right h next) g))
 
 no_list : (test : Bool) (list : List InstanceValue) (context : Context) → Satisfiable context ≡ cond test (Unsatisfiable list) (GaveUp bound.List) → ⊥
 no_list true list context h = cc h
 no_list false list context h = cc h
 
-by_outcome : (problem : ProblemValue) (bounds : Bounds) (positive : Bool) (context : Context) (outcome : TreeOutcome) → GivesExhausted problem bounds positive outcome → Satisfiable context ≡ answer_of bounds outcome → IsGrown problem bounds positive context × IsNext problem bounds context Exhausted
+by_outcome : (problem : ProblemValue) (bounds : Bounds) (context : Context) (outcome : TreeOutcome) → GivesExhausted problem bounds outcome → Satisfiable context ≡ answer_of bounds outcome → IsGrown problem bounds context × IsNext problem bounds context Exhausted
 unfolding GivesExhausted
-by_outcome problem bounds positive context (Sat other) h e =
+by_outcome problem bounds context (Sat other) h e =
     let same : context ≡ other = cc e in
-    let P : Context → Type 0 = λ x. IsGrown problem bounds positive x × IsNext problem bounds x Exhausted in
+    let P : Context → Type 0 = λ x. IsGrown problem bounds x × IsNext problem bounds x Exhausted in
     subst P (sym same) h
-by_outcome problem bounds positive context (Closed list) h e = absurd (no_list (nat_le (list_weight list) bounds.list) list context e)
-by_outcome problem bounds positive context (Met b) h e = cc e
+by_outcome problem bounds context (Closed list) h e = absurd (no_list (nat_le (list_weight list) bounds.list) list context e)
+by_outcome problem bounds context (Met b) h e = cc e
 
-pub satisfiable_model : (problem : ProblemValue) (bounds : Bounds) (positive : Bool) (context : Context) → HasAnswer problem bounds positive (Satisfiable context) → IsContext context × IsConsistent context × IsModel problem context
-satisfiable_model problem bounds positive context reply =
-    let h = by_outcome problem bounds positive context reply.0 (gives started reply.1) reply.2 in
+pub satisfiable_model : (problem : ProblemValue) (bounds : Bounds) (context : Context) → HasAnswer problem bounds (Satisfiable context) → IsContext context × IsConsistent context × IsModel problem context
+satisfiable_model problem bounds context reply =
+    let h = by_outcome problem bounds context reply.0 (gives started reply.1) reply.2 in
     let whole = grown h.0 in (whole.0, whole.1, exhausted_model problem bounds context whole.0 h.1)

@@ -94,14 +94,14 @@ universal_decided Universal = inl refl
 universal_decided Parametric = inr (λ h. cc)
 
 -- the entry is Universal and generalizes the atom
-Covers : AtomValue → EntryValue → Type 0
-Covers a e = (e.kind ≡ Universal) × Generalizes e.atom (Of a)
+CoversAtom : AtomValue → EntryValue → Type 0
+CoversAtom a e = (e.kind ≡ Universal) × Generalizes e.atom (Of a)
 
-covers_decided : (a : AtomValue) (e : EntryValue) → Covers a e ⊎ (¬ Covers a e)
-unfolding Covers
+covers_decided : (a : AtomValue) (e : EntryValue) → CoversAtom a e ⊎ (¬ CoversAtom a e)
+unfolding CoversAtom
 covers_decided a e =
-    elim (universal_decided e.kind) as (λ _. Covers a e ⊎ (¬ Covers a e)) [
-      | inl u ↦ elim (generalizes_decided e.atom (Of a)) as (λ _. Covers a e ⊎ (¬ Covers a e)) [ inl g ↦ inl (u, g) | inr g ↦ inr (λ h. g h.1) ]
+    elim (universal_decided e.kind) as (λ _. CoversAtom a e ⊎ (¬ CoversAtom a e)) [
+      | inl u ↦ elim (generalizes_decided e.atom (Of a)) as (λ _. CoversAtom a e ⊎ (¬ CoversAtom a e)) [ inl g ↦ inl (u, g) | inr g ↦ inr (λ h. g h.1) ]
       | inr u ↦ inr (λ h. u h.0)
     ]
 
@@ -110,13 +110,13 @@ first_generalizes : (context : Context) → IsContext context → (a : AtomValue
 first_generalizes context h a none = none 0 (pseudo h.first.0) h.first.1 tt
 
 -- where no Universal entry generalizes the atom, none that does is hidden
-shown : (context : Context) (a : AtomValue) → ((k : ℕ) (e : EntryValue) → StandsAt context k e → ¬ Covers a e) → (k : ℕ) (e : EntryValue) → StandsAt context k e → Generalizes e.atom (Of a) → IsVisible context k e
-unfolding Covers
+shown : (context : Context) (a : AtomValue) → ((k : ℕ) (e : EntryValue) → StandsAt context k e → ¬ CoversAtom a e) → (k : ℕ) (e : EntryValue) → StandsAt context k e → Generalizes e.atom (Of a) → IsVisible context k e
+unfolding CoversAtom
 shown context a none k e stands g =
-    (stands, λ hidden. none hidden.0 hidden.1 hidden.2.stands (hidden.2.universal, generalizes_transitive hidden.1.atom e.atom (Of a) hidden.2.generalizes g))
+    (stands, λ hidden. none hidden.0 hidden.1 hidden.2.stands (hidden.2.covers.is_universal, generalizes_transitive hidden.1.atom e.atom (Of a) hidden.2.covers.generalizes g))
 
-by_lowest : (context : Context) (a : AtomValue) → ((k : ℕ) (e : EntryValue) → StandsAt context k e → ¬ Covers a e) → (l : Lowest (λ e. Generalizes e.atom (Of a)) context) → Produces context l.at l.entry (record { positive = l.entry.positive; atom = a })
-unfolding Covers
+by_lowest : (context : Context) (a : AtomValue) → ((k : ℕ) (e : EntryValue) → StandsAt context k e → ¬ CoversAtom a e) → (l : Lowest (λ e. Generalizes e.atom (Of a)) context) → Produces context l.at l.entry (record { positive = l.entry.positive; atom = a })
+unfolding CoversAtom
 by_lowest context a none l = record {
   visible = shown context a none l.at l.entry l.stands l.holds;
   same_sign = refl;
@@ -124,10 +124,10 @@ by_lowest context a none l = record {
   undisputed = inr (λ ex. elim ex.4 as (λ _. ⊥) [ inl u ↦ none ex.0 ex.1 ex.2.0 (u, ex.3) | inr q ↦ l.lowest ex.0 ex.1 ex.2.0 ex.3 q.1 ]);
 }
 
-by_last : (context : Context) (a : AtomValue) (l : Last (Covers a) context) → Produces context l.at l.entry (record { positive = l.entry.positive; atom = a })
-unfolding Covers
+by_last : (context : Context) (a : AtomValue) (l : Last (CoversAtom a) context) → Produces context l.at l.entry (record { positive = l.entry.positive; atom = a })
+unfolding CoversAtom
 by_last context a l = record {
-  visible = (l.stands, λ hidden. l.last hidden.0 hidden.1 hidden.2.is_later hidden.2.stands (hidden.2.universal, generalizes_transitive hidden.1.atom l.entry.atom (Of a) hidden.2.generalizes l.holds.1));
+  visible = (l.stands, λ hidden. l.last hidden.0 hidden.1 hidden.2.is_later hidden.2.stands (hidden.2.covers.is_universal, generalizes_transitive hidden.1.atom l.entry.atom (Of a) hidden.2.covers.generalizes l.holds.1));
   same_sign = refl;
   generalizes = l.holds.1;
   undisputed = inl l.holds.0;
@@ -136,7 +136,7 @@ by_last context a l = record {
 -- a context produces the positive or the negative literal of each atom
 pub total : (context : Context) → IsContext context → (a : AtomValue) → (positive : Bool) × IsProduced context (record { positive = positive; atom = a })
 total context h a =
-    elim (last_of (Covers a) (covers_decided a) context) as (λ _. (positive : Bool) × IsProduced context (record { positive = positive; atom = a })) [
+    elim (last_of (CoversAtom a) (covers_decided a) context) as (λ _. (positive : Bool) × IsProduced context (record { positive = positive; atom = a })) [
       | inl l ↦ (l.entry.positive, (l.at, l.entry, by_last context a l))
       | inr none ↦ elim (lowest_of (λ e. Generalizes e.atom (Of a)) (λ e. generalizes_decided e.atom (Of a)) context) as (λ _. (positive : Bool) × IsProduced context (record { positive = positive; atom = a })) [
         | inl l ↦ (l.entry.positive, (l.at, l.entry, by_lowest context a none l))

@@ -1,5 +1,5 @@
 -- Laws of next steps, outcomes and answers: there is at most one of each, and an exhausted context is a model.
-use Rattle.std.specs.Prelude.{◌≡◌, ℕ, Bool, List}
+use Rattle.std.specs.Prelude.{◌≡◌, ℕ, List}
 use Rattle.me_terms.specs.Values.{ProblemValue, InstanceValue}
 use Rattle.me_terms.specs.Context.{Context, IsContext}
 use Rattle.me_terms.specs.Contradictory.{IsConsistent}
@@ -7,6 +7,7 @@ use Rattle.me_terms.specs.Next.{NextValue, Exhausted, IsNext}
 use Rattle.me_terms.specs.LeafList.{IsLeafList}
 use Rattle.me_terms.specs.Outcome.{TreeOutcome, HasOutcome}
 use Rattle.me_terms.specs.Answer.{AnswerValue, Satisfiable, HasAnswer}
+use Rattle.me_terms.specs.Deepening.{HasAnswerFrom}
 use Rattle.me_terms.specs.InducedModel.{IsModel}
 use Rattle.me_terms.specs.declared.bounds.Bounds.{Bounds}
 
@@ -24,7 +25,11 @@ OutcomeIsDetermined = (problem : ProblemValue) (bounds : Bounds) (context : Cont
 
 -- A problem within bounds has at most one answer.
 abbrev pub AnswerIsDetermined : Type 0
-AnswerIsDetermined = (problem : ProblemValue) (bounds : Bounds) (positive : Bool) (reply other : AnswerValue) → HasAnswer problem bounds positive reply → HasAnswer problem bounds positive other → reply ≡ other
+AnswerIsDetermined = (problem : ProblemValue) (bounds : Bounds) (reply other : AnswerValue) → HasAnswer problem bounds reply → HasAnswer problem bounds other → reply ≡ other
+
+-- With deepening from a depth it has at most one answer too.
+abbrev pub DeepenedAnswerIsDetermined : Type 0
+DeepenedAnswerIsDetermined = (problem : ProblemValue) (bounds : Bounds) (from : ℕ) (reply other : AnswerValue) → HasAnswerFrom problem bounds from reply → HasAnswerFrom problem bounds from other → reply ≡ other
 
 -- An exhausted context is a model of all ground instances.
 abbrev pub ExhaustedIsModel : Type 0
@@ -32,4 +37,4 @@ ExhaustedIsModel = (problem : ProblemValue) (bounds : Bounds) (context : Context
 
 -- The context of a Satisfiable answer is consistent, and a model of all ground instances.
 abbrev pub SatisfiableIsModel : Type 0
-SatisfiableIsModel = (problem : ProblemValue) (bounds : Bounds) (positive : Bool) (context : Context) → HasAnswer problem bounds positive (Satisfiable context) → IsContext context × IsConsistent context × IsModel problem context
+SatisfiableIsModel = (problem : ProblemValue) (bounds : Bounds) (context : Context) → HasAnswer problem bounds (Satisfiable context) → IsContext context × IsConsistent context × IsModel problem context

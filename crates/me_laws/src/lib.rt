@@ -7,7 +7,7 @@
 ghost use Rattle.me_laws.specs.CanonicalForm.{CanonicalFormIsTheVariant};
 ghost use Rattle.me_laws.specs.ContextLaws.{AddKeepsConsistency, ClashIsSymmetric, ContextIsTotal};
 ghost use Rattle.me_laws.specs.GrownLaws.{GrownIsConsistent, ReasonsHold, SplitIsApart};
-ghost use Rattle.me_laws.specs.SearchLaws.{AnswerIsDetermined, ExhaustedIsModel, LeafListIsDetermined, NextIsDetermined, OutcomeIsDetermined, SatisfiableIsModel};
+ghost use Rattle.me_laws.specs.SearchLaws.{AnswerIsDetermined, DeepenedAnswerIsDetermined, ExhaustedIsModel, LeafListIsDetermined, NextIsDetermined, OutcomeIsDetermined, SatisfiableIsModel};
 ghost use Rattle.me_laws.specs.TermLaws.{GeneralityIsOrder, VariantsAreAlike};
 ghost use Rattle.me_laws.specs.UnifierLaws.{ProductionLifts, UnifiersAgree, UnifiersExist};
 ghost use Rattle.me_laws.specs.UnifierMeasures.{UnifiersMeasureAlike};
@@ -95,6 +95,11 @@ pub fn outcome_is_determined()
 /// A problem within bounds has at most one answer.
 pub fn answer_is_determined()
     ensures { AnswerIsDetermined }
+{}
+
+/// With deepening from a depth a problem within bounds has at most one answer.
+pub fn deepened_answer_is_determined()
+    ensures { DeepenedAnswerIsDetermined }
 {}
 
 /// An exhausted context is a model of all ground instances.

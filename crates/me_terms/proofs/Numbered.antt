@@ -1,6 +1,8 @@
 -- Names that are given one by one, in the order in which variables first stand.
 use Rattle.std.proofs.Common.{◌≡◌, ℕ, zero, suc, ◌+◌, ◌<◌, ◌≤◌, Bool, true, false, ◌||◌, cond, eqb, List, [], ◌∷◌, ◌++◌, length, drop, slice_get, Some, refl, ap, sym, subst, ◌∙◌, append_assoc, arith}
-use Rattle.std.specs.List.{list_any, position_or_len}
+use Rattle.std.specs.List.{list_any, position_or_len, All, IsDistinct}
+use Rattle.std.proofs.lemmas.Map.Steps.{length-le_from_distinct_below}
+use Rattle.std.proofs.lemmas.List.Elements.{All-append, All-cons, All-nil, All-rest}
 use Rattle.std.proofs.lemmas.Grind.{common_steps}
 use Rattle.std.proofs.lemmas.List.{drop_more, drop_all, append-nil}
 use Rattle.std.proofs.lemmas.List.Recursion.{is_position_or_len}
@@ -125,3 +127,23 @@ names_all all names xs k past q = rw (drop_all k xs past) at q
 pub canonical_args : (old names : List ℕ) (args form : Arguments) → old ≡ [] → names ≡ first_ones old (variables_of args) → form ≡ apply_arguments (by_place (names ++ [])) args → form ≡ apply_arguments (by_place (first_ones [] (variables_of args))) args
 canonical_args old names args form none is q =
     q ∙ ap (λ z. apply_arguments (by_place z) args) (append-nil names ∙ (is ∙ ap (λ z. first_ones z (variables_of args)) none))
+
+-- ---- names that are words of 32 bits
+below_by : (q x n : ℕ) (test : Bool) (rest : Bool) → eqb q x ≡ test → x < n → (rest ≡ true → q < n) → (test || rest) ≡ true → q < n
+below_by q x n true rest same less later h = let e : q ≡ x = grind (arith, common_steps) in rw e less
+below_by q x n false rest same less later h = later h
+
+pub found_below : (names : List ℕ) (n q : ℕ) → All (λ y. y < n) names → list_any (eqb q) names ≡ true → q < n
+found_below [] n q all h = cc
+found_below (x ∷ names) n q all h =
+    below_by q x n (eqb q x) (list_any (eqb q) names) refl (all 0 x (omega arith)) (found_below names n q (All-rest (λ y. y < n) x names (x ∷ names) refl all)) h
+
+pub few : (names : List ℕ) (n : ℕ) → IsDistinct eqb names → All (λ y. y < n) names → length names ≤ n
+few names n distinct all = length-le_from_distinct_below names n distinct (λ q h. found_below names n q all h)
+
+still_by : (names : List ℕ) (x n : ℕ) (test : Bool) → All (λ y. y < n) names → x < n → All (λ y. y < n) (cond test names (names ++ x ∷ []))
+still_by names x n true all less = all
+still_by names x n false all less = All-append (λ y. y < n) names (x ∷ []) all (All-cons (λ y. y < n) x [] less (All-nil (λ y. y < n)))
+
+pub still_below : (names : List ℕ) (x n : ℕ) → All (λ y. y < n) names → x < n → All (λ y. y < n) (first_ones names (x ∷ []))
+still_below names x n all less = still_by names x n (list_any (eqb x) names) all less

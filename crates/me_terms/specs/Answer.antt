@@ -1,5 +1,5 @@
 -- The answer to a problem within bounds.
-use Rattle.std.specs.Prelude.{◌≡◌, Bool, List, nat_le, if◌then◌else◌}
+use Rattle.std.specs.Prelude.{◌≡◌, List, nat_le, if◌then◌else◌}
 use Rattle.me_terms.specs.Measures.{list_weight}
 use Rattle.me_terms.specs.Values.{ProblemValue, InstanceValue}
 use Rattle.me_terms.specs.Context.{Context}
@@ -21,7 +21,7 @@ answer_of bounds (Sat context) = Satisfiable context
 answer_of bounds (Closed list) = if nat_le (list_weight list) bounds.list then Unsatisfiable list else GaveUp bound.List
 answer_of bounds (Met b) = GaveUp b
 
--- The answer: that of the outcome of the tree of the pseudo-literal alone, of that sign.
-abbrev pub HasAnswer : ProblemValue → Bounds → Bool → AnswerValue → Type 0
-HasAnswer problem bounds positive reply =
-    (outcome : TreeOutcome) × HasOutcome problem bounds (start positive) outcome × (reply ≡ answer_of bounds outcome)
+-- The answer: that of the outcome of the tree of the bounds' start.
+abbrev pub HasAnswer : ProblemValue → Bounds → AnswerValue → Type 0
+HasAnswer problem bounds reply =
+    (outcome : TreeOutcome) × HasOutcome problem bounds (start bounds.start) outcome × (reply ≡ answer_of bounds outcome)

@@ -34,13 +34,17 @@ pub record IsContext (context : Context) : Type 0 where
   pub first : (positive : Bool) × StandsAt context 0 (pseudo positive)
   pub later : (k : ℕ) (e : EntryValue) → 0 < k → StandsAt context k e → IsLiteralEntry e
 
--- A later Universal entry of e's sign, at position j, generalizes e, the entry at position k.
+-- The first entry is Universal, has the other's sign, and generalizes it.
+pub record Covers (universal entry : EntryValue) : Type 0 where
+  pub is_universal : universal.kind ≡ Universal
+  pub same_sign : universal.positive ≡ entry.positive
+  pub generalizes : Generalizes universal.atom entry.atom
+
+-- A later entry, at position j, covers e, the entry at position k.
 pub record Hides (context : Context) (k : ℕ) (e : EntryValue) (j : ℕ) (later : EntryValue) : Type 0 where
   pub is_later : k < j
   pub stands : StandsAt context j later
-  pub universal : later.kind ≡ Universal
-  pub same_sign : later.positive ≡ e.positive
-  pub generalizes : Generalizes later.atom e.atom
+  pub covers : Covers later e
 
 -- The entry e at position k is hidden.
 abbrev pub IsHidden : Context → ℕ → EntryValue → Type 0

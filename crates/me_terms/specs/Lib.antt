@@ -4,6 +4,8 @@ pub mod Assert
 pub mod Close
 pub mod Context
 pub mod Contradictory
+pub mod Deepening
+pub mod Dropping
 pub mod FirstOccurrences
 pub mod Fits
 pub mod GroundInstances

@@ -6,6 +6,7 @@ use Rattle.me_terms.specs.Signatures.{takes, is_known_atom}
 use Rattle.me_terms.specs.Variables.{variables_of, is_numbered_from}
 use Rattle.me_terms.specs.Values.{SignatureValue, ClauseValue, ProblemValue}
 use Rattle.me_terms.specs.declared.bounds.Bounds.{Bounds}
+use Rattle.me_terms.specs.declared.bounds.TheConstants.{MAX_DEPTH, MAX_WEIGHT, MAX_ENTRIES, MAX_LIST}
 use Rattle.me_terms.specs.declared.atom.Literal.{Literal}
 
 -- The variables of a clause, in order, as often as they stand.
@@ -27,9 +28,9 @@ pub record IsValid (problem : ProblemValue) : Type 0 where
   pub predicates : All IsPredicateSymbol problem.signature.predicates
   pub c0_constant : IsTrue (takes (slice_get problem.signature.functions problem.c0) 0)
 
--- Each bound stands in its range.
+-- Each bound stands in its range. Either start will do.
 pub record IsLawful (bounds : Bounds) : Type 0 where
-  pub depth : (1 ≤ bounds.depth) × (bounds.depth ≤ 64)
-  pub weight : (1 ≤ bounds.weight) × (bounds.weight ≤ 100000)
-  pub literals : (1 ≤ bounds.literals) × (bounds.literals ≤ 65535)
-  pub list : (1 ≤ bounds.list) × (bounds.list ≤ 50000000)
+  pub depth : (1 ≤ bounds.depth) × (bounds.depth ≤ MAX_DEPTH)
+  pub weight : (1 ≤ bounds.weight) × (bounds.weight ≤ MAX_WEIGHT)
+  pub literals : (1 ≤ bounds.literals) × (bounds.literals ≤ MAX_ENTRIES)
+  pub list : (1 ≤ bounds.list) × (bounds.list ≤ MAX_LIST)

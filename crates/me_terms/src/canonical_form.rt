@@ -2,7 +2,8 @@
 //!
 //! One pass over the literal. Two literals of one sign are variants exactly where their canonical forms
 //! are equal.
-ghost use Rattle.std.specs.Prelude.{◌≡◌, ℕ, ◌++◌, ◌∷◌, [], List, OnOk, IfOk, nat_eq};
+ghost use Rattle.std.specs.Prelude.{◌≡◌, ℕ, ◌<◌, ◌^◌, ◌++◌, ◌∷◌, [], List, OnOk, IfOk, nat_eq};
+ghost use Rattle.std.specs.List.{All};
 ghost use Rattle.me_terms.specs.TermViews.{term_value};
 ghost use Rattle.me_terms.specs.Terms.{arguments_of};
 ghost use Rattle.me_terms.specs.Substitutions.{apply_term, apply_arguments};
@@ -36,24 +37,26 @@ fn numbered_atom(alloc: Global, names: &mut IndexSet<u32>, atom: &Atom) -> Resul
     })
 }
 
-/// The number of a variable, which is the next one where it is new.
+/// The number of a variable, which is the next one where it is new. As names differ and are words of 32
+/// bits, so is each place.
 fn number(names: &mut IndexSet<u32>, x: u32) -> Result<u32, AllocError>
+    requires { All (λ y. y < 2 ^ 32) names.old.keys }
     ensures names { OnOk result (names.new.keys ≡ first_ones names.old.keys (x ∷ [])) }
     ensures number { IfOk result (λ n. (later : List ℕ) → n ≡ place_of x (names.new.keys ++ later)) }
+    ensures small { OnOk result (All (λ y. y < 2 ^ 32) names.new.keys) }
 {
-    let Ok((place, _)) = names.insert_full(x) else {
-        return Err(AllocError);
-    };
-    if place > u32::MAX as usize {
-        return Err(AllocError);
+    match names.insert_full(x) {
+        Ok((place, _)) => Ok(place as u32),
+        Err(_) => Err(AllocError),
     }
-    Ok(place as u32)
 }
 
 #[cycle(numbered)]
 fn numbered(alloc: Global, names: &mut IndexSet<u32>, term: &Term) -> Result<Term, AllocError>
+    requires { All (λ y. y < 2 ^ 32) names.old.keys }
     ensures names { OnOk result (names.new.keys ≡ first_ones names.old.keys (term_variables (term_value term.now))) }
     ensures term { IfOk result (λ form. (later : List ℕ) → term_value form ≡ apply_term (by_place (names.new.keys ++ later)) (term_value term.now)) }
+    ensures small { OnOk result (All (λ y. y < 2 ^ 32) names.new.keys) }
 {
     match term {
         Term::Var(x) => Ok(Term::Var(number(names, *x)?)),
@@ -70,8 +73,10 @@ fn numbered_all(
     names: &mut IndexSet<u32>,
     terms: &Terms,
 ) -> Result<Terms, AllocError>
+    requires { All (λ y. y < 2 ^ 32) names.old.keys }
     ensures names { OnOk result (names.new.keys ≡ first_ones names.old.keys (variables_of (arguments_of terms.now.items))) }
     ensures terms { IfOk result (λ form. (later : List ℕ) → arguments_of form.items ≡ apply_arguments (by_place (names.new.keys ++ later)) (arguments_of terms.now.items)) }
+    ensures small { OnOk result (All (λ y. y < 2 ^ 32) names.new.keys) }
 {
     let mut made = Terms::new(alloc);
     for k in 0..terms.len() {

@@ -9,11 +9,11 @@ ghost use Rattle.me_terms.specs.Hashed.{term_fed, arguments_fed};
 
 use crate::answer::Instance;
 use crate::atom::Atom;
-use crate::term::{Term, Terms};
+use crate::term::{Rest, Term, Terms};
 use std::hash::{Hash, Hasher};
 
 impl Term {
-    /// Feeds the term's symbols and variables.
+    /// Feeds the term's symbols and variables, by calls as deep as the term.
     #[cycle(feed)]
     fn feed<H: Hasher>(&self, state: &mut H)
         ensures { state.new ≡ fold H.write state.old (term_fed (term_value self.now)) }
@@ -29,6 +29,39 @@ impl Term {
 }
 
 impl Terms {
+    /// Feeds the terms in order. It takes a list of what is still to be fed, and where memory is out it
+    /// goes into a term by calls.
+    pub(crate) fn feed_all<H: Hasher>(&self, state: &mut H)
+        ensures { state.new ≡ fold H.write state.old (arguments_fed (arguments_of self.now.items)) }
+    {
+        let mut later: Vec<Rest<'_>> = Vec::new(*self.items.allocator());
+        let mut terms = self.as_slice();
+        'terms: loop {
+            if let Some((first, others)) = terms.split_first() {
+                match first {
+                    Term::Var(x) => {
+                        state.write_u32(*x);
+                        terms = others;
+                    }
+                    Term::App { f, args } => {
+                        state.write_u32(*f);
+                        if later.push(Rest { terms: others }).is_ok() {
+                            terms = args.as_slice();
+                        } else {
+                            args.feed(state);
+                            terms = others;
+                        }
+                    }
+                }
+            } else {
+                let Some(rest) = later.pop() else {
+                    return;
+                };
+                terms = rest.terms;
+            }
+        }
+    }
+
     #[cycle(feed)]
     fn feed<H: Hasher>(&self, state: &mut H)
         ensures { state.new ≡ fold H.write state.old (arguments_fed (arguments_of self.now.items)) }
@@ -50,7 +83,7 @@ impl Hash for Atom {
 
     fn hash<H: Hasher>(&self, state: &mut H) {
         state.write_u32(self.pred);
-        self.args.feed(state);
+        self.args.feed_all(state);
     }
 }
 

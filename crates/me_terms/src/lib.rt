@@ -26,11 +26,13 @@ mod view;
 pub use again::Again;
 pub use answer::{Answer, Instance, Instances, Next};
 pub use atom::{Atom, Literal, Literals, Pattern};
-pub use bounds::{Bound, Bounds};
+pub use bounds::{Bound, Bounds, MAX_DEPTH, MAX_ENTRIES, MAX_LIST, MAX_WEIGHT, Start};
 pub use canonical_form::canonical;
 pub use clause::{Clause, Clauses};
 pub use entry::{Entries, Entry, Kind, Reason};
-pub use matching::{generalizes, is_variant, is_variant_of, matches, strictly_more_general};
+pub use matching::{
+    covers, generalizes, is_instance, is_variant, is_variant_of, matches, strictly_more_general,
+};
 pub use measures::{depth_of, is_ground, weight_of};
 pub use problem::Problem;
 pub use sequence::{Places, Sequence};
@@ -39,6 +41,3 @@ pub use symbol::{Form, Label, Symbol, Text};
 pub use term::{Term, Terms};
 pub use tuple::Tuple;
 pub use view::{Refused, Trunk, View};
-
-#[cfg(test)]
-mod tests;

@@ -1,4 +1,5 @@
-//! Generality: whether one atom is an instance of another, and whether they are variants.
+//! Generality: whether one atom is an instance of another, whether they are variants, and whether one
+//! entry covers another.
 //!
 //! The value of a variable is what stands where the variable first stands, so no memory is taken.
 ghost use Rattle.std.specs.Prelude.{◌≡◌, ◌&&◌, eqb, ◌↔◌, IsTrue, option_map};
@@ -7,9 +8,11 @@ ghost use Rattle.me_terms.specs.TermViews.{term_value};
 ghost use Rattle.me_terms.specs.Terms.{arguments_of};
 ghost use Rattle.me_terms.specs.Matchers.{found, found_all, agrees, agree};
 ghost use Rattle.me_terms.specs.Substitutions.{Generalizes, IsInstance, IsVariant, IsStrictlyMoreGeneral};
+ghost use Rattle.me_terms.specs.Context.{Covers};
 ghost use Rattle.me_terms.specs.declared.atom.Pattern.TheVariants as pattern;
 
 use crate::atom::{Atom, Pattern};
+use crate::entry::{Entry, Kind};
 use crate::term::{Term, Terms};
 
 impl Term {
@@ -81,7 +84,7 @@ impl Terms {
 
 /// Whether some substitution takes the general atom to the special one.
 #[tactic(auto, using(crate::proofs::Matchers::matches_iff, crate::proofs::Matchers::preds_differ))]
-pub fn generalizes(general: &Atom, special: &Atom) -> bool
+pub fn is_instance(general: &Atom, special: &Atom) -> bool
     ensures { IsTrue result ↔ IsInstance general.now special.now }
 {
     general.pred == special.pred
@@ -90,21 +93,43 @@ pub fn generalizes(general: &Atom, special: &Atom) -> bool
             .agree(&special.args, &general.args, &special.args)
 }
 
-/// Whether some substitution takes the general one to the special one. The pseudo-atom is above every atom.
+/// Whether some substitution takes the general one to the special one. The pseudo-atom is above every
+/// pattern, and below itself alone.
+pub fn generalizes(general: &Pattern, special: &Pattern) -> bool
+    ensures { IsTrue result ↔ Generalizes general.now special.now }
+{
+    match (general, special) {
+        (Pattern::Any, _) => true,
+        (Pattern::Of(own), Pattern::Of(other)) => is_instance(own, other),
+        (Pattern::Of(_), Pattern::Any) => false,
+    }
+}
+
+/// Whether some substitution takes the general one to the special atom. The pseudo-atom is above every atom.
 pub fn matches(general: &Pattern, special: &Atom) -> bool
     ensures { IsTrue result ↔ Generalizes general.now (pattern.Of special.now) }
 {
     match general {
         Pattern::Any => true,
-        Pattern::Of(atom) => generalizes(atom, special),
+        Pattern::Of(atom) => is_instance(atom, special),
     }
+}
+
+/// Whether the first entry is Universal and of the other's sign, and generalizes it. Where it stands
+/// later in a context, it hides the other.
+pub fn covers(universal: &Entry, entry: &Entry) -> bool
+    ensures { IsTrue result ↔ Covers universal.now entry.now }
+{
+    universal.kind == Kind::Universal
+        && universal.positive == entry.positive
+        && generalizes(&universal.atom, &entry.atom)
 }
 
 /// Whether the atoms differ at most in the names of their variables: each is an instance of the other.
 pub fn is_variant(a: &Atom, b: &Atom) -> bool
     ensures { IsTrue result ↔ IsVariant (pattern.Of a.now) (pattern.Of b.now) }
 {
-    generalizes(a, b) && generalizes(b, a)
+    is_instance(a, b) && is_instance(b, a)
 }
 
 /// Whether the pattern is a variant of the atom. The pseudo-atom is none.
@@ -123,6 +148,6 @@ pub fn strictly_more_general(a: &Pattern, b: &Atom) -> bool
 {
     match a {
         Pattern::Any => true,
-        Pattern::Of(general) => generalizes(general, b) && !generalizes(b, general),
+        Pattern::Of(general) => is_instance(general, b) && !is_instance(b, general),
     }
 }

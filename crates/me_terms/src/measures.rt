@@ -9,7 +9,7 @@ ghost use Rattle.me_terms.specs.Variables.{is_ground, are_ground, depth, depths,
 ghost use Rattle.me_terms.specs.Measures.{capped, literal_depth, literal_weight};
 
 use crate::atom::Literal;
-use crate::term::{Term, Terms};
+use crate::term::{Rest, Term, Terms};
 
 /// The greatest depth of the literal's arguments, or 0 without any. A variable and a constant have depth
 /// 1, and another term has 1 more than the deepest of its arguments.
@@ -23,7 +23,7 @@ pub fn depth_of(lit: &Literal) -> u64
 pub fn weight_of(lit: &Literal) -> u64
     ensures { result ≡ capped (literal_weight lit.now) }
 {
-    lit.atom.args.weight().saturating_add(1)
+    lit.atom.args.weight_of_all().saturating_add(1)
 }
 
 /// Whether no variable stands in the literal.
@@ -76,6 +76,37 @@ impl Terms {
             }
         }
         true
+    }
+
+    /// The sum of the terms' weights. It takes a list of what is still to be counted, and where memory is
+    /// out it goes into a term by calls.
+    fn weight_of_all(&self) -> u64
+        ensures { result ≡ capped (weights (arguments_of self.now.items)) }
+    {
+        let mut later: Vec<Rest<'_>> = Vec::new(*self.items.allocator());
+        let mut terms = self.as_slice();
+        let mut total = 0_u64;
+        'terms: loop {
+            if let Some((first, others)) = terms.split_first() {
+                total = total.saturating_add(1);
+                match first {
+                    Term::Var(_) => terms = others,
+                    Term::App { f: _, args } => {
+                        if later.push(Rest { terms: others }).is_ok() {
+                            terms = args.as_slice();
+                        } else {
+                            total = total.saturating_add(args.weight());
+                            terms = others;
+                        }
+                    }
+                }
+            } else {
+                let Some(rest) = later.pop() else {
+                    return total;
+                };
+                terms = rest.terms;
+            }
+        }
     }
 
     #[cycle(weight)]

@@ -2,7 +2,7 @@
 //!
 //! A contract sees a list as its items in order, beside the number of further items that fit with no
 //! allocation. Equality and hash go by the items alone.
-ghost use Rattle.std.specs.Prelude.{◌≡◌, ◌==◌, ◌+◌, ◌<◌, ◌≤◌, [], ◌∷◌, ◌++◌, length, slice_get, ◌↔◌, IsSome, IsOk, OnOk, OnErr, IfErr};
+ghost use Rattle.std.specs.Prelude.{◌≡◌, ◌==◌, ◌+◌, ◌<◌, ◌≤◌, [], ◌∷◌, ◌++◌, length, slice_get, ◌↔◌, IsSome, IsOk, OnOk, OnErr, IfOk, IfErr};
 ghost use Rattle.std.specs.Option.{option_copied};
 ghost use Rattle.std.specs.Cmp.{on_equiv, on_per};
 ghost use Rattle.std.specs.Cmp.Lexicographic.{pointwise, lists_per, lists_equiv};
@@ -109,6 +109,37 @@ impl<T: Drop> Sequence<T> {
         }
         self.items.push_reserved(item);
         Ok(())
+    }
+}
+
+impl<T: Drop> Sequence<T> {
+    /// Moves all items of the other list to the end of this one, or changes no item where memory is out.
+    pub fn append(&mut self, other: &mut Self) -> Result<(), AllocError>
+        ensures ok { OnOk result ((self.new.items ≡ self.old.items ++ other.old.items) × (other.new.items ≡ [])) }
+        ensures err { OnErr result ((self.new.items ≡ self.old.items) × (other.new.items ≡ other.old.items)) }
+    {
+        self.reserve(other.len())?;
+        self.items.append(&mut other.items)
+    }
+}
+
+impl<T: Copy> Sequence<T> {
+    /// A list of the same items.
+    pub fn from_slice(items: &[T], alloc: Global) -> Result<Self, AllocError>
+        ensures { IfOk result (λ list. list.items ≡ items.now) }
+    {
+        let mut list = Sequence::new(alloc);
+        list.extend_from_slice(items)?;
+        Ok(list)
+    }
+
+    /// Puts the items at the end, or changes no item where memory is out.
+    pub fn extend_from_slice(&mut self, items: &[T]) -> Result<(), AllocError>
+        ensures ok { OnOk result (self.new.items ≡ self.old.items ++ items.now) }
+        ensures err { OnErr result (self.new.items ≡ self.old.items) }
+    {
+        self.reserve(items.len() as u64)?;
+        self.items.extend_from_slice(items)
     }
 }
 

@@ -2,14 +2,16 @@
 //!
 //! A contract sees a term as a mathematical tree, and a list of arguments as a list of such trees beside
 //! the room that is left. Equality is that of the trees.
-ghost use Rattle.std.specs.Prelude.{◌≡◌, ◌==◌, ◌+◌, ◌<◌, ◌≤◌, [], ◌∷◌, ◌++◌, length, map, slice_get, option_map, ◌↔◌, IsSome, IsOk, OnOk, OnErr, IfOk, IfErr};
+ghost use Rattle.std.specs.Prelude.{vec_capacity, ◌≡◌, ◌==◌, ◌+◌, ◌<◌, ◌≤◌, [], ◌∷◌, ◌++◌, length, map, slice_get, option_map, ◌↔◌, IsSome, IsOk, OnOk, OnErr, IfOk, IfErr};
 ghost use Rattle.std.specs.Option.{option_copied};
 ghost use Rattle.me_terms.specs.TermViews.{term_value};
-ghost use Rattle.me_terms.specs.Terms.{arguments_of};
+ghost use Rattle.me_terms.specs.Terms.{arguments_of, App as AppTerm};
+ghost use Rattle.me_terms.specs.Dropping.{drop_work};
 ghost use Rattle.me_terms.specs.TermEquality.{same_term, same_arguments};
 
 use std::alloc::{AllocError, Global};
 use std::marker::Model;
+use std::mem;
 
 /// A variable by its number, or a function by its number with its arguments.
 #[cycle(term)]
@@ -21,9 +23,58 @@ pub enum Term {
 
 /// The arguments of a function or a predicate.
 #[cycle(term)]
-#[derive(Drop)]
 pub struct Terms {
     pub(crate) items: Vec<Term>,
+}
+
+impl Terms {
+    /// The terms, to be taken out one by one.
+    fn into_items(self) -> Vec<Term>
+        ensures { map term_value result.items ≡ self.items }
+    {
+        let Terms { items } = self;
+        items
+    }
+}
+
+impl Drop for Terms {
+    fn drop(self) {
+        let Terms { mut items } = self;
+        'items: while let Some(term) = items.pop() {
+            match term {
+                Term::Var(_) => {}
+                Term::App { f, args } => {
+                    items = below(items, f, args.into_items());
+                }
+            }
+        }
+        items.destroy_empty();
+    }
+}
+
+/// The arguments of a term that stood last in a list, which has room for one more, before that list: what
+/// is left to drop, without more memory and without the term's own node.
+fn below(rest: Vec<Term>, f: u32, inner: Vec<Term>) -> Vec<Term>
+    requires { length rest.items < vec_capacity rest }
+    ensures { drop_work (arguments_of (map term_value result.items)) < drop_work (arguments_of (map term_value rest.items ++ AppTerm f (arguments_of (map term_value inner.items)) ∷ [])) }
+{
+    if rest.is_empty() {
+        rest.destroy_empty();
+        return inner;
+    }
+    if inner.is_empty() {
+        inner.destroy_empty();
+        return rest;
+    }
+    let mut rest = rest;
+    let mut inner = inner;
+    let first = mem::replace(&mut inner[0], Term::Var(0));
+    rest.push_reserved(first);
+    let args = Terms { items: rest };
+    match mem::replace(&mut inner[0], Term::App { f, args }) {
+        Term::Var(_) => inner,
+        Term::App { f: _, args: _ } => unreachable!(),
+    }
 }
 
 impl Model for Terms {
@@ -115,7 +166,7 @@ impl Terms {
 }
 
 impl Term {
-    /// Whether two terms are written alike.
+    /// Whether two terms are written alike, by calls as deep as the terms.
     #[cycle(same)]
     pub(crate) fn same(&self, other: &Term) -> bool
         ensures { result ≡ same_term (term_value self.now) (term_value other.now) }
@@ -130,7 +181,6 @@ impl Term {
     }
 
     /// An equal term.
-    #[cycle(again)]
     pub fn again(&self, alloc: Global) -> Result<Term, AllocError>
         ensures { IfOk result (λ copy. term_value copy ≡ term_value self.now) }
     {
@@ -145,7 +195,52 @@ impl Term {
 }
 
 impl Terms {
-    /// Whether two lists have terms that are written alike, in order.
+    /// Whether two lists have terms that are written alike, in order. It takes a list of what is still to
+    /// be compared, and where memory is out calls itself.
+    pub(crate) fn alike(&self, other: &Terms) -> bool
+        ensures { result ≡ same_arguments (arguments_of self.now.items) (arguments_of other.now.items) }
+    {
+        let mut later: Vec<Pair<'_>> = Vec::new(*self.items.allocator());
+        let mut mine = self.as_slice();
+        let mut theirs = other.as_slice();
+        'terms: loop {
+            if let Some((first, rest)) = mine.split_first() {
+                let Some((second, others)) = theirs.split_first() else {
+                    return false;
+                };
+                match (first, second) {
+                    (Term::Var(x), Term::Var(y)) => {
+                        if *x != *y {
+                            return false;
+                        }
+                        mine = rest;
+                        theirs = others;
+                    }
+                    (Term::App { f, args: inner }, Term::App { f: g, args: outer }) => {
+                        if *f != *g {
+                            return false;
+                        }
+                        if later.push(Pair { rest, others }).is_err() {
+                            return self.same(other);
+                        }
+                        mine = inner.as_slice();
+                        theirs = outer.as_slice();
+                    }
+                    _ => return false,
+                }
+            } else {
+                if !theirs.is_empty() {
+                    return false;
+                }
+                let Some(pair) = later.pop() else {
+                    return true;
+                };
+                mine = pair.rest;
+                theirs = pair.others;
+            }
+        }
+    }
+
     #[cycle(same)]
     #[tactic(auto, using(crate::specs::TermEqualityLaws::same_arguments_lengths))]
     pub(crate) fn same(&self, other: &Terms) -> bool
@@ -164,20 +259,72 @@ impl Terms {
         true
     }
 
-    /// An equal list.
-    #[cycle(again)]
+    /// An equal list. It takes a list of its own for the terms that are not copied to their end.
     pub fn again(&self, alloc: Global) -> Result<Terms, AllocError>
         ensures { IfOk result (λ copy. copy.items ≡ self.now.items) }
     {
-        let mut copy = Terms::new(alloc);
-        for item in &self.items {
-            let item = item.again(alloc)?;
-            if copy.push(item).is_err() {
-                return Err(AllocError);
+        let mut above: Vec<Frame<'_>> = Vec::new(alloc);
+        let mut rest = self.as_slice();
+        let mut made = Terms::new(alloc);
+        'terms: loop {
+            if let Some((first, others)) = rest.split_first() {
+                match first {
+                    Term::Var(x) => {
+                        if made.push(Term::Var(*x)).is_err() {
+                            return Err(AllocError);
+                        }
+                        rest = others;
+                    }
+                    Term::App { f, args } => {
+                        above.push(Frame {
+                            f: *f,
+                            made,
+                            rest: others,
+                        })?;
+                        made = Terms::new(alloc);
+                        rest = args.as_slice();
+                    }
+                }
+            } else {
+                let Some(frame) = above.pop() else {
+                    return Ok(made);
+                };
+                let Frame {
+                    f,
+                    made: before,
+                    rest: others,
+                } = frame;
+                let args = made;
+                made = before;
+                if made.push(Term::App { f, args }).is_err() {
+                    return Err(AllocError);
+                }
+                rest = others;
             }
         }
-        Ok(copy)
     }
+}
+
+/// Terms that wait while a term before them is gone into.
+#[derive(Clone, Copy)]
+pub(crate) struct Rest<'a> {
+    pub(crate) terms: &'a [Term],
+}
+
+/// Lists of terms that are still to be compared.
+#[derive(Clone, Copy)]
+pub(crate) struct Pair<'a> {
+    rest: &'a [Term],
+    others: &'a [Term],
+}
+
+/// A term of which some arguments are copied: its function, the terms before it, which are copied, and
+/// those behind it.
+#[derive(Drop)]
+pub(crate) struct Frame<'a> {
+    f: u32,
+    made: Terms,
+    rest: &'a [Term],
 }
 
 impl PartialEq for Term {

@@ -1,12 +1,13 @@
 //! Contexts as what a reader sees, and as what a search extends.
 //!
-//! A `View` is a context of at most 65,535 entries, which can be read. A `Trunk` is one that also grows
+//! A `View` is a context of at most `MAX_ENTRIES` entries, which can be read. A `Trunk` is one that also grows
 //! and shrinks by an entry at its end. What is visible follows from the entries.
 ghost use Rattle.std.specs.Prelude.{◌≡◌, ◌<◌, ◌≤◌, List, length, slice_get, not, ◌↔◌, IsSome, IsTrue, OnOk, OnErr, IfOk, IfErr};
 ghost use Rattle.std.specs.Option.{option_copied};
 ghost use Rattle.me_terms.specs.Context.{IsContext, IsLiteralEntry, IsVisible, add};
 ghost use Rattle.me_terms.specs.Contradictory.{Contradicts};
 ghost use Rattle.me_terms.specs.Values.{EntryValue};
+ghost use Rattle.me_terms.specs.declared.bounds.TheConstants.{MAX_ENTRIES};
 
 use crate::entry::Entry;
 use std::alloc::{AllocError, Global};
@@ -19,7 +20,7 @@ pub trait View {
     /// The number of entries, hidden ones and the pseudo-literal counted.
     fn len(&self) -> u32
         ensures number { result ≡ length (context self.now) }
-        ensures few { length (context self.now) ≤ 65535 }
+        ensures few { length (context self.now) ≤ MAX_ENTRIES }
         ensures is_context { IsContext (context self.now) };
 
     /// The entry at position `k`, from 0.
@@ -44,11 +45,11 @@ pub trait Trunk: View + Drop {
     /// Puts an entry at the end, or hands it back where memory is out.
     ///
     /// The entry is a literal with a canonical atom, Universal where it is ground, and does not contradict
-    /// the context, which has fewer than 65,535 entries.
+    /// the context, which has fewer than `MAX_ENTRIES` entries.
     fn extend(&mut self, e: Entry) -> Result<(), Refused>
         requires literal { IsLiteralEntry e }
         requires apart { ¬ Contradicts (Self.context self.old) e.positive e.kind e.atom }
-        requires room { length (Self.context self.old) < 65535 }
+        requires room { length (Self.context self.old) < MAX_ENTRIES }
         ensures ok { OnOk result (Self.context self.new ≡ add (Self.context self.old) e) }
         ensures err { OnErr result (self.new ≡ self.old) }
         ensures back { IfErr result (λ refused. refused.entry ≡ e) };

@@ -13,11 +13,11 @@ use Rattle.me_unify.specs.declared.links.Links.{Links}
 use Rattle.me_unify.specs.declared.node.Node.{Node}
 use Rattle.me_unify.specs.declared.step.Step.{Step}
 use Rattle.me_unify.specs.declared.step.Sides.{Sides}
-use Rattle.me_unify.specs.Linked.{Colouring, Fits, Respects, IsLonger}
+use Rattle.me_unify.specs.Linked.{Colouring, IsColoured, Respects, IsLonger}
 use Rattle.me_unify.specs.Ordered.{colour, solved, HasOrder, IsSettled}
-use Rattle.me_unify.specs.Nodes.{IsArena, IsGrown}
+use Rattle.me_unify.specs.Nodes.{IsArena, KeepsNodes}
 use Rattle.me_unify.specs.Equations.{Equation, SolvesOne, SolvesAll, IsSolvable, IsMostGeneral}
-use Rattle.me_unify.specs.Marks.{IsCut, IsStage, IsPosed, AreApart, IsBack, as_written, atom_of, equation_of, equations_of, IsWithin, AreBound}
+use Rattle.me_unify.specs.Marks.{IsCutBack, IsStage, IsPosed, AreApart, IsBack, as_written, atom_of, equation_of, step_equations, IsStepWithin, AreBound}
 use Rattle.me_unify.proofs.Forest.{respects_less}
 use Rattle.me_unify.proofs.Made.{atoms_same}
 use Rattle.me_unify.proofs.Written.{colour_fits, colour_grown}
@@ -75,24 +75,24 @@ solves_last : (u : Family) (es : List Equation) (e : Equation) → SolvesAll u (
 solves_last u es e h = subst (SolvesOne u) (get_or_push es e e (length es) refl) (h (length es) e (omega (arith, length_push es e)))
 
 -- ---- stages
-stage_kept : (old new : List Node) (l m : Links) (n k : ℕ) (es : List Equation) → IsStage old l n k es → IsGrown old new → IsLonger l m → IsStage new m n k es
+stage_kept : (old new : List Node) (l m : Links) (n k : ℕ) (es : List Equation) → IsStage old l n k es → KeepsNodes old new → IsLonger l m → IsStage new m n k es
 stage_kept old new l m n k es q g more = record {
   mark = mark_kept old new l m n k q.mark g more;
   same = λ c cut t h fits. q.same c (cut_back l m k c more q.mark.links_within cut) t h (λ x v lt e. fits x v lt (g x v e));
 }
 
-stage_cut : (nodes : List Node) (l c : Links) (n m j k : ℕ) (es : List Equation) → IsStage nodes l j k es → IsCut l m c → n ≤ length nodes → j ≤ n → k ≤ m → IsStage (take n nodes) c j k es
+stage_cut : (nodes : List Node) (l c : Links) (n m j k : ℕ) (es : List Equation) → IsStage nodes l j k es → IsCutBack l m c → n ≤ length nodes → j ≤ n → k ≤ m → IsStage (take n nodes) c j k es
 stage_cut nodes l c n m j k es q cut le jn km = record {
   mark = mark_cut nodes l c n m j k cut le jn km q.mark;
   same = λ d e t h fits. q.same d (cut_twice l c d m k cut e) t h (λ x v lt at. fits x v lt (take_at n nodes x (omega arith) ∙ at));
 }
 
 -- what the links say now
-pub says : (nodes : List Node) (l : Links) (steps : List Step) → AreBound nodes l steps → (t : Family) (h : Colouring) → Fits nodes t h → Respects l h ↔ SolvesAll t (equations_of nodes steps)
+pub says : (nodes : List Node) (l : Links) (steps : List Step) → AreBound nodes l steps → (t : Family) (h : Colouring) → IsColoured nodes t h → Respects l h ↔ SolvesAll t (step_equations nodes steps)
 says nodes l steps b t h fits = b.last.same l (cut_itself l) t h (λ x v lt e. fits x v e)
 
 -- ---- the links have a most general unifier, and no solution where the last equation has none
-pub general_by : (nodes : List Node) (l : Links) (steps : List Step) → AreBound nodes l steps → (rank : ℕ → ℕ) (limit : ℕ) → IsSettled nodes l rank limit → IsMostGeneral (equations_of nodes steps) (family_of nodes l apart limit)
+pub general_by : (nodes : List Node) (l : Links) (steps : List Step) → AreBound nodes l steps → (rank : ℕ → ℕ) (limit : ℕ) → IsSettled nodes l rank limit → IsMostGeneral (step_equations nodes steps) (family_of nodes l apart limit)
 general_by nodes l steps b rank limit settled = record {
   solves = (says nodes l steps b (family_of nodes l apart limit) (solved nodes l apart limit) (settled_fits nodes l rank limit apart settled b.arena.single)).0 (settled_respects nodes l rank limit apart settled);
   most_general = λ v s.
@@ -102,29 +102,29 @@ general_by nodes l steps b rank limit settled = record {
       (r, settled_general nodes l rank limit apart settled v (colour nodes v) r made ((says nodes l steps b v (colour nodes v) made).1 s) names);
 }
 
-pub general_of : (nodes : List Node) (l : Links) (steps : List Step) → AreBound nodes l steps → (u : Family) × IsMostGeneral (equations_of nodes steps) u
+pub general_of : (nodes : List Node) (l : Links) (steps : List Step) → AreBound nodes l steps → (u : Family) × IsMostGeneral (step_equations nodes steps) u
 general_of nodes l steps b =
     let o = ordered_by nodes l b.arena b.solution.0 b.solution.1.0 b.solution.1.1.0 b.solution.1.1.1 in
     (family_of nodes l apart o.1.0, general_by nodes l steps b o.0 o.1.0 o.1.1)
 
-pub not_solvable : (nodes : List Node) (l : Links) (steps : List Step) (e : Equation) → AreBound nodes l steps → AreApart nodes l e → IsSolvable (equations_of nodes steps ++ e ∷ []) → ⊥
+pub not_solvable : (nodes : List Node) (l : Links) (steps : List Step) (e : Equation) → AreBound nodes l steps → AreApart nodes l e → IsSolvable (step_equations nodes steps ++ e ∷ []) → ⊥
 not_solvable nodes l steps e b apart_ones s =
     let made = colour_fits nodes s.0 b.arena.fit in
-    apart_ones s.0 (colour nodes s.0) made ((says nodes l steps b s.0 (colour nodes s.0) made).1 (solves_front s.0 (equations_of nodes steps) e s.1)) (solves_last s.0 (equations_of nodes steps) e s.1)
+    apart_ones s.0 (colour nodes s.0) made ((says nodes l steps b s.0 (colour nodes s.0) made).1 (solves_front s.0 (step_equations nodes steps) e s.1)) (solves_last s.0 (step_equations nodes steps) e s.1)
 
 -- ---- all as before
-within_along : (s : Step) (n m j k : ℕ) → IsWithin s n m → n ≤ j → m ≤ k → IsWithin s j k
+within_along : (s : Step) (n m j k : ℕ) → IsStepWithin s n m → n ≤ j → m ≤ k → IsStepWithin s j k
 within_along s n m j k q a b = record { left = omega (arith, q.left); right = omega (arith, q.right); nodes = omega (arith, q.nodes); links = omega (arith, q.links) }
 
 pub bound_same : (nodes : List Node) (l m : Links) (steps : List Step) → AreBound nodes l steps → IsArena nodes m → IsLonger l m → IsLonger m l → AreBound nodes m steps
 bound_same nodes l m steps b a more less =
     let size : length m.froms.items ≡ length l.froms.items = omega (arith, more.longer, less.longer) in
-    let itself : IsGrown nodes nodes = λ x v e. e in
+    let itself : KeepsNodes nodes nodes = λ x v e. e in
     record {
       arena = a;
       solution = (b.solution.0, (b.solution.1.0, (b.solution.1.1.0, respects_less m l b.solution.1.0 less b.solution.1.1.1)));
-      last = rw size (stage_kept nodes nodes l m (length nodes) (length l.froms.items) (equations_of nodes steps) b.last itself more);
-      before = λ k s at. stage_kept nodes nodes l m s.nodes s.links (take k (equations_of nodes steps)) (b.before k s at) itself more;
+      last = rw size (stage_kept nodes nodes l m (length nodes) (length l.froms.items) (step_equations nodes steps) b.last itself more);
+      before = λ k s at. stage_kept nodes nodes l m s.nodes s.links (take k (step_equations nodes steps)) (b.before k s at) itself more;
       within = λ k s at. within_along s (length nodes) (length l.froms.items) (length nodes) (length m.froms.items) (b.within k s at) (omega arith) (omega arith);
       rising = b.rising;
     }
@@ -136,7 +136,7 @@ bound_back nodes new l m steps b a back =
 
 -- ---- one equation more
 -- an equation reads the same among more nodes
-equation_kept : (old new : List Node) (l m : Links) (s : Step) → IsArena old l → IsArena new m → IsGrown old new → s.left < length old → s.right < length old → equation_of new s ≡ equation_of old s
+equation_kept : (old new : List Node) (l m : Links) (s : Step) → IsArena old l → IsArena new m → KeepsNodes old new → s.left < length old → s.right < length old → equation_of new s ≡ equation_of old s
 equation_kept old new l m s a b g lw rw' =
     let left : colour new as_written s.left ≡ colour old as_written s.left = colour_grown old new as_written a.fit b.fit g s.left lw in
     let right : colour new as_written s.right ≡ colour old as_written s.right = colour_grown old new as_written a.fit b.fit g s.right rw' in
@@ -151,7 +151,7 @@ pub record IsStepOf (nodes : List Node) (l : Links) (e : Equation) (sides : Side
   pub nodes_are : s.nodes ≡ length nodes
   pub links_are : s.links ≡ length l.froms.items
 
-atom_read : (new : List Node) (m : Links) (x space : ℕ) (a : AtomValue) → IsArena new m → ((t : Family) (h : Colouring) → Fits new t h → h x ≡ App a.pred (apply_arguments (t space) a.args)) → atom_of (colour new as_written x) ≡ a
+atom_read : (new : List Node) (m : Links) (x space : ℕ) (a : AtomValue) → IsArena new m → ((t : Family) (h : Colouring) → IsColoured new t h → h x ≡ App a.pred (apply_arguments (t space) a.args)) → atom_of (colour new as_written x) ≡ a
 atom_read new m x space a arena is =
     let e : colour new as_written x ≡ App a.pred (apply_arguments Var a.args) = is as_written (colour new as_written) (colour_fits new as_written arena.fit) in
     ap atom_of e ∙ (λ i. record { pred = a.pred; args = arguments_unchanged a.args i })
@@ -163,7 +163,7 @@ equation_read nodes l new m e sides s a p q =
     λ i. record { left_space = q.left_space i; left = left i; right_space = q.right_space i; right = right i }
 
 pub view_more : (nodes : List Node) (l : Links) (new : List Node) (m : Links) (steps : List Step) (e : Equation) (sides : Sides) (s : Step) → AreBound nodes l steps → IsArena new m → IsPosed nodes l new m e sides → IsStepOf nodes l e sides s
-    → equations_of new (steps ++ s ∷ []) ≡ equations_of nodes steps ++ e ∷ []
+    → step_equations new (steps ++ s ∷ []) ≡ step_equations nodes steps ++ e ∷ []
 view_more nodes l new m steps e sides s b a p q =
     let first : map (equation_of new) steps ≡ map (equation_of nodes) steps = map_same (equation_of new) (equation_of nodes) steps
     (λ i r at. let w = b.within i r at in equation_kept nodes new l m r b.arena a p.grown w.left w.right) in
@@ -172,24 +172,24 @@ view_more nodes l new m steps e sides s b a p q =
 
 -- the links say the old equations and the new one
 says_more : (nodes : List Node) (l : Links) (new : List Node) (m : Links) (steps : List Step) (e : Equation) (sides : Sides) → AreBound nodes l steps → IsPosed nodes l new m e sides
-    → (c : Links) → IsCut m (length m.froms.items) c → (t : Family) (h : Colouring) → Fits new t h → Respects c h ↔ SolvesAll t (equations_of nodes steps ++ e ∷ [])
+    → (c : Links) → IsCutBack m (length m.froms.items) c → (t : Family) (h : Colouring) → IsColoured new t h → Respects c h ↔ SolvesAll t (step_equations nodes steps ++ e ∷ [])
 says_more nodes l new m steps e sides b p c cut t h fits =
-    let es = equations_of nodes steps in
+    let es = step_equations nodes steps in
     let old = says nodes l steps b t h (λ x v at. fits x v (p.grown x v at)) in
     let both = p.same t h fits in
     let atoms = atoms_same (apply_atom (t e.left_space) e.left) (apply_atom (t e.right_space) e.right) (h sides.left) (h sides.right) (p.left t h fits) (p.right t h fits) in (
-      λ r. let w = both.1 (respects_less m c h (longer_of_cut m c cut) r) in All-push (SolvesOne t) (equations_of nodes steps) e (old.0 w.0) (atoms.1 w.1),
-      λ s. respects_less c m h cut.less (both.0 (old.1 (solves_front t (equations_of nodes steps) e s), atoms.0 (solves_last t (equations_of nodes steps) e s))),
+      λ r. let w = both.1 (respects_less m c h (longer_of_cut m c cut) r) in All-push (SolvesOne t) (step_equations nodes steps) e (old.0 w.0) (atoms.1 w.1),
+      λ s. respects_less c m h cut.less (both.0 (old.1 (solves_front t (step_equations nodes steps) e s), atoms.0 (solves_last t (step_equations nodes steps) e s))),
     )
 
-solution_more : (new : List Node) (m : Links) → IsArena new m → HasOrder new m → (u : Family) × ((h : Colouring) × (Fits new u h × Respects m h))
+solution_more : (new : List Node) (m : Links) → IsArena new m → HasOrder new m → (u : Family) × ((h : Colouring) × (IsColoured new u h × Respects m h))
 solution_more new m a o =
     (family_of new m apart o.1.0, (solved new m apart o.1.0, (settled_fits new m o.0 o.1.0 apart o.1.1 a.single, settled_respects new m o.0 o.1.0 apart o.1.1)))
 
 take_front : (es : List Equation) (e : Equation) (k : ℕ) → k ≤ length es → take k (es ++ e ∷ []) ≡ take k es
 take_front es e k le = take-append-le k es (e ∷ []) le
 
-step_within : (nodes : List Node) (l : Links) (new : List Node) (m : Links) (e : Equation) (sides : Sides) (s : Step) → IsPosed nodes l new m e sides → IsStepOf nodes l e sides s → IsWithin s (length new) (length m.froms.items)
+step_within : (nodes : List Node) (l : Links) (new : List Node) (m : Links) (e : Equation) (sides : Sides) (s : Step) → IsPosed nodes l new m e sides → IsStepOf nodes l e sides s → IsStepWithin s (length new) (length m.froms.items)
 step_within nodes l new m e sides s p q = record {
   left = omega (arith, q.left, p.left_within);
   right = omega (arith, q.right, p.right_within);
@@ -198,26 +198,26 @@ step_within nodes l new m e sides s p q = record {
 }
 
 before_more : (nodes : List Node) (l : Links) (new : List Node) (m : Links) (steps : List Step) (e : Equation) (sides : Sides) (s : Step) → AreBound nodes l steps → IsPosed nodes l new m e sides → IsStepOf nodes l e sides s
-    → (k : ℕ) (r : Step) → ((slice_get steps k ≡ Some r) ⊎ ((k ≡ length steps) × (r ≡ s))) → IsStage new m r.nodes r.links (take k (equations_of nodes steps ++ e ∷ []))
+    → (k : ℕ) (r : Step) → ((slice_get steps k ≡ Some r) ⊎ ((k ≡ length steps) × (r ≡ s))) → IsStage new m r.nodes r.links (take k (step_equations nodes steps ++ e ∷ []))
 before_more nodes l new m steps e sides s b p q k r (inl at) =
     let lt = slice_get_within steps k r at in
-    let size : length (equations_of nodes steps) ≡ length steps = length-map steps (equation_of nodes) in
-    rw (take_front (equations_of nodes steps) e k (omega arith)) (stage_kept nodes new l m r.nodes r.links (take k (equations_of nodes steps)) (b.before k r at) p.grown p.more)
+    let size : length (step_equations nodes steps) ≡ length steps = length-map steps (equation_of nodes) in
+    rw (take_front (step_equations nodes steps) e k (omega arith)) (stage_kept nodes new l m r.nodes r.links (take k (step_equations nodes steps)) (b.before k r at) p.grown p.more)
 before_more nodes l new m steps e sides s b p q k r (inr (at, is)) =
-    let size : length (equations_of nodes steps) ≡ length steps = length-map steps (equation_of nodes) in
-    let list : take k (equations_of nodes steps ++ e ∷ []) ≡ equations_of nodes steps =
-    take_front (equations_of nodes steps) e k (omega arith) ∙ (ap (λ z. take z (equations_of nodes steps)) (at ∙ sym size) ∙ take_whole (equations_of nodes steps)) in
+    let size : length (step_equations nodes steps) ≡ length steps = length-map steps (equation_of nodes) in
+    let list : take k (step_equations nodes steps ++ e ∷ []) ≡ step_equations nodes steps =
+    take_front (step_equations nodes steps) e k (omega arith) ∙ (ap (λ z. take z (step_equations nodes steps)) (at ∙ sym size) ∙ take_whole (step_equations nodes steps)) in
     let n : r.nodes ≡ length nodes = ap (λ (z : Step). z.nodes) is ∙ q.nodes_are in
     let j : r.links ≡ length l.froms.items = ap (λ (z : Step). z.links) is ∙ q.links_are in
-    rw (list, n, j) (stage_kept nodes new l m (length nodes) (length l.froms.items) (equations_of nodes steps) b.last p.grown p.more)
+    rw (list, n, j) (stage_kept nodes new l m (length nodes) (length l.froms.items) (step_equations nodes steps) b.last p.grown p.more)
 
 within_more : (nodes : List Node) (l : Links) (new : List Node) (m : Links) (steps : List Step) (e : Equation) (sides : Sides) (s : Step) → AreBound nodes l steps → IsPosed nodes l new m e sides → IsStepOf nodes l e sides s
-    → (k : ℕ) (r : Step) → ((slice_get steps k ≡ Some r) ⊎ ((k ≡ length steps) × (r ≡ s))) → IsWithin r (length new) (length m.froms.items)
+    → (k : ℕ) (r : Step) → ((slice_get steps k ≡ Some r) ⊎ ((k ≡ length steps) × (r ≡ s))) → IsStepWithin r (length new) (length m.froms.items)
 within_more nodes l new m steps e sides s b p q k r (inl at) = within_along r (length nodes) (length l.froms.items) (length new) (length m.froms.items) (b.within k r at) (grown_length nodes new p.grown) p.more.longer
-within_more nodes l new m steps e sides s b p q k r (inr (at, is)) = let P : Step → Type 0 = λ z. IsWithin z (length new) (length m.froms.items) in subst P (sym is) (step_within nodes l new m e sides s p q)
+within_more nodes l new m steps e sides s b p q k r (inr (at, is)) = let P : Step → Type 0 = λ z. IsStepWithin z (length new) (length m.froms.items) in subst P (sym is) (step_within nodes l new m e sides s p q)
 
 rising_more : (nodes : List Node) (l : Links) (steps : List Step) (e : Equation) (sides : Sides) (s : Step) → AreBound nodes l steps → IsStepOf nodes l e sides s
-    → (i k : ℕ) (r v : Step) → i < k → slice_get (steps ++ s ∷ []) i ≡ Some r → ((slice_get steps k ≡ Some v) ⊎ ((k ≡ length steps) × (v ≡ s))) → IsWithin r v.nodes v.links
+    → (i k : ℕ) (r v : Step) → i < k → slice_get (steps ++ s ∷ []) i ≡ Some r → ((slice_get steps k ≡ Some v) ⊎ ((k ≡ length steps) × (v ≡ s))) → IsStepWithin r v.nodes v.links
 rising_more nodes l steps e sides s b q i k r v lt ati (inl at) =
     let w = slice_get_within steps k v at in
     b.rising i k r v lt (at_before steps s i r (omega arith) ati) at
@@ -241,7 +241,7 @@ bound_more nodes l new m steps e sides s b a p q =
 
 -- ---- back to a step
 pub view_less : (nodes : List Node) (l c : Links) (steps : List Step) (k : ℕ) (s : Step) → AreBound nodes l steps → slice_get steps k ≡ Some s → IsArena (take s.nodes nodes) c
-    → equations_of (take s.nodes nodes) (take k steps) ≡ take k (equations_of nodes steps)
+    → step_equations (take s.nodes nodes) (take k steps) ≡ take k (step_equations nodes steps)
 view_less nodes l c steps k s b at a =
     let n = s.nodes in
     let size : length (take s.nodes nodes) ≡ s.nodes = length-take-le s.nodes nodes (b.within k s at).nodes in
@@ -252,7 +252,7 @@ view_less nodes l c steps k s b at a =
     sym (equation_kept (take s.nodes nodes) nodes c l r a b.arena (take_grown s.nodes nodes) (omega (arith, q.left)) (omega (arith, q.right))))
     ∙ map_take (equation_of nodes) k steps
 
-pub bound_less : (nodes : List Node) (l c : Links) (steps : List Step) (k : ℕ) (s : Step) → AreBound nodes l steps → slice_get steps k ≡ Some s → IsArena (take s.nodes nodes) c → IsCut l s.links c
+pub bound_less : (nodes : List Node) (l c : Links) (steps : List Step) (k : ℕ) (s : Step) → AreBound nodes l steps → slice_get steps k ≡ Some s → IsArena (take s.nodes nodes) c → IsCutBack l s.links c
     → AreBound (take s.nodes nodes) c (take k steps)
 bound_less nodes l c steps k s b at a cut =
     let here = b.within k s at in
@@ -261,11 +261,11 @@ bound_less nodes l c steps k s b at a cut =
     record {
       arena = a;
       solution = (b.solution.0, (b.solution.1.0, (λ x v e. b.solution.1.1.0 x v (take_grown s.nodes nodes x v e), respects_less c l b.solution.1.0 cut.less b.solution.1.1.1)));
-      last = rw (view, size, cut.size) (stage_cut nodes l c s.nodes s.links s.nodes s.links (take k (equations_of nodes steps)) (b.before k s at) cut here.nodes (omega arith) (omega arith));
+      last = rw (view, size, cut.size) (stage_cut nodes l c s.nodes s.links s.nodes s.links (take k (step_equations nodes steps)) (b.before k s at) cut here.nodes (omega arith) (omega arith));
       before = λ i r ati.
           let w = within_take k steps i r ati in
           let q = b.rising i k r s w.0 w.1 at in
-          rw (view, take_less i k (equations_of nodes steps) (omega (arith, w.0))) (stage_cut nodes l c s.nodes s.links r.nodes r.links (take i (equations_of nodes steps)) (b.before i r w.1) cut here.nodes q.nodes q.links);
+          rw (view, take_less i k (step_equations nodes steps) (omega (arith, w.0))) (stage_cut nodes l c s.nodes s.links r.nodes r.links (take i (step_equations nodes steps)) (b.before i r w.1) cut here.nodes q.nodes q.links);
       within = λ i r ati. let w = within_take k steps i r ati in rw (size, cut.size) (b.rising i k r s w.0 w.1 at);
       rising = λ i j r v lt ati atj. b.rising i j r v lt (within_take k steps i r ati).1 (within_take k steps j v atj).1;
     }
@@ -290,20 +290,20 @@ bound_none nodes l steps a e f s = rw (e, s) (none_bound l (rw e at a) (ap lengt
 -- ---- an equation that was added
 pub record IsAdded (new : List Node) (m : Links) (items : List Step) (old : List Equation) (e : Equation) : Type 0 where
   pub bound : AreBound new m items
-  pub view : equations_of new items ≡ old ++ e ∷ []
-  pub unifier : (u : Family) × IsMostGeneral (equations_of new items) u
+  pub view : step_equations new items ≡ old ++ e ∷ []
+  pub unifier : (u : Family) × IsMostGeneral (step_equations new items) u
   pub solvable : IsSolvable (old ++ e ∷ [])
 
-added_by : (nodes : List Node) (l : Links) (new : List Node) (m : Links) (steps : List Step) (e : Equation) (sides : Sides) (s : Step) (old : List Equation) → AreBound nodes l steps → equations_of nodes steps ≡ old → IsArena new m → IsPosed nodes l new m e sides → IsStepOf nodes l e sides s
+added_by : (nodes : List Node) (l : Links) (new : List Node) (m : Links) (steps : List Step) (e : Equation) (sides : Sides) (s : Step) (old : List Equation) → AreBound nodes l steps → step_equations nodes steps ≡ old → IsArena new m → IsPosed nodes l new m e sides → IsStepOf nodes l e sides s
     → IsAdded new m (steps ++ s ∷ []) old e
 added_by nodes l new m steps e sides s old b is a p q =
     let bound = bound_more nodes l new m steps e sides s b a p q in
-    let view : equations_of new (steps ++ s ∷ []) ≡ old ++ e ∷ [] = view_more nodes l new m steps e sides s b a p q ∙ ap (λ z. z ++ e ∷ []) is in
+    let view : step_equations new (steps ++ s ∷ []) ≡ old ++ e ∷ [] = view_more nodes l new m steps e sides s b a p q ∙ ap (λ z. z ++ e ∷ []) is in
     let general = general_of new m (steps ++ s ∷ []) bound in
     let P : List Equation → Type 0 = λ z. IsSolvable z in
     record { bound = bound; view = view; unifier = general; solvable = subst P view (general.0, general.1.solves) }
 
-pub added : (nodes : List Node) (l : Links) (new : List Node) (m : Links) (steps kept items : List Step) (e : Equation) (sides : Sides) (s : Step) (old : List Equation) → AreBound nodes l steps → equations_of nodes steps ≡ old → IsArena new m → IsPosed nodes l new m e sides
+pub added : (nodes : List Node) (l : Links) (new : List Node) (m : Links) (steps kept items : List Step) (e : Equation) (sides : Sides) (s : Step) (old : List Equation) → AreBound nodes l steps → step_equations nodes steps ≡ old → IsArena new m → IsPosed nodes l new m e sides
     → IsStepOf nodes l e sides s → kept ≡ steps → items ≡ kept ++ s ∷ [] → IsAdded new m items old e
 added nodes l new m steps kept items e sides s old b is a p q k i =
     let P : List Step → Type 0 = λ z. IsAdded new m z old e in

@@ -10,8 +10,8 @@ use Rattle.me_unify.specs.declared.links.Links.{Links}
 use Rattle.me_unify.specs.declared.node.Node.{Node}
 use Rattle.me_unify.specs.declared.node.Node.TheVariants.{Var}
 use Rattle.me_unify.specs.Linked.{NONE, AreLinks, IsForest, IsLonger}
-use Rattle.me_unify.specs.Nodes.{IsArena, IsGrown}
-use Rattle.me_unify.specs.Marks.{IsCut, IsMark, IsBack}
+use Rattle.me_unify.specs.Nodes.{IsArena, KeepsNodes}
+use Rattle.me_unify.specs.Marks.{IsCutBack, IsMark, IsBack}
 use Rattle.me_unify.proofs.Steps.{longer_twice, closed_kept, directed_back, longer_back, shorter_back}
 use Rattle.me_unify.proofs.MoreNodes.{same_links}
 
@@ -61,13 +61,13 @@ take_at (suc n) [] x lt = refl
 take_at (suc n) (y ∷ xs) zero lt = refl
 take_at (suc n) (y ∷ xs) (suc x) lt = take_at n xs x (omega arith)
 
-pub take_grown : (n : ℕ) (nodes : List Node) → IsGrown (take n nodes) nodes
+pub take_grown : (n : ℕ) (nodes : List Node) → KeepsNodes (take n nodes) nodes
 take_grown zero nodes x v e = let z : x < 0 = slice_get_within [] x v e in absurd (omega (arith, z))
 take_grown (suc n) [] x v e = e
 take_grown (suc n) (y ∷ nodes) zero v e = e
 take_grown (suc n) (y ∷ nodes) (suc x) v e = take_grown n nodes x v e
 
-pub grown_take : (old new : List Node) → IsGrown old new → take (length old) new ≡ old
+pub grown_take : (old new : List Node) → KeepsNodes old new → take (length old) new ≡ old
 grown_take [] new g = refl
 grown_take (n ∷ old) [] g = let z : 0 < 0 = slice_get_within [] 0 n (g 0 n refl) in absurd (omega (arith, z))
 grown_take (n ∷ old) (m ∷ new) g =
@@ -75,13 +75,13 @@ grown_take (n ∷ old) (m ∷ new) g =
     let rest : take (length old) new ≡ old = grown_take old new (λ x v e. g (suc x) v e) in
     λ i. first i ∷ rest i
 
-pub grown_length : (old new : List Node) → IsGrown old new → length old ≤ length new
+pub grown_length : (old new : List Node) → KeepsNodes old new → length old ≤ length new
 grown_length [] new g = omega arith
 grown_length (n ∷ old) [] g = let z : 0 < 0 = slice_get_within [] 0 n (g 0 n refl) in absurd (omega (arith, z))
 grown_length (n ∷ old) (m ∷ new) g = let rest = grown_length old new (λ x v e. g (suc x) v e) in omega (arith, rest)
 
 -- what stands in the longer list at a place of the shorter, stands there
-pub grown_back : (old new : List Node) (x : ℕ) (v : Node) → IsGrown old new → x < length old → slice_get new x ≡ Some v → slice_get old x ≡ Some v
+pub grown_back : (old new : List Node) (x : ℕ) (v : Node) → KeepsNodes old new → x < length old → slice_get new x ≡ Some v → slice_get old x ≡ Some v
 grown_back old new x v g lt e =
     let w : Node = get_or old x (Var 0 0) in
     let is : slice_get old x ≡ Some (get_or old x (Var 0 0)) = slice_get-get_or old x (Var 0 0) lt in
@@ -89,10 +89,10 @@ grown_back old new x v g lt e =
     is ∙ (sym at ∙ e)
 
 -- ---- marks
-pub cut_itself : (l : Links) → IsCut l (length l.froms.items) l
+pub cut_itself : (l : Links) → IsCutBack l (length l.froms.items) l
 cut_itself l = record { less = record { longer = omega arith; froms = λ k lt. refl; tos = λ k lt. refl }; size = refl }
 
-pub longer_of_cut : (l c : Links) → IsCut l (length l.froms.items) c → IsLonger l c
+pub longer_of_cut : (l c : Links) → IsCutBack l (length l.froms.items) c → IsLonger l c
 longer_of_cut l c q = record {
   longer = omega (arith, q.size);
   froms = λ k lt. let b : k < length c.froms.items = omega (arith, q.size) in sym (q.less.froms k b);
@@ -100,7 +100,7 @@ longer_of_cut l c q = record {
 }
 
 -- a cut of more links is one of the links
-pub cut_back : (l m : Links) (n : ℕ) (c : Links) → IsLonger l m → n ≤ length l.froms.items → IsCut m n c → IsCut l n c
+pub cut_back : (l m : Links) (n : ℕ) (c : Links) → IsLonger l m → n ≤ length l.froms.items → IsCutBack m n c → IsCutBack l n c
 cut_back l m n c more le q = record {
   less = record {
     longer = omega (arith, q.size);
@@ -110,7 +110,7 @@ cut_back l m n c more le q = record {
   size = q.size;
 }
 
-pub cut_twice : (l c d : Links) (n m : ℕ) → IsCut l n c → IsCut c m d → IsCut l m d
+pub cut_twice : (l c d : Links) (n m : ℕ) → IsCutBack l n c → IsCutBack c m d → IsCutBack l m d
 cut_twice l c d n m p q = record { less = longer_twice d c l q.less p.less; size = q.size }
 
 pub mark_now : (nodes : List Node) (l : Links) → IsArena nodes l → IsMark nodes l (length nodes) (length l.froms.items)
@@ -122,7 +122,7 @@ mark_now nodes l a = record {
   closed = λ c q. closed_kept nodes l c (length l.froms.items) (longer_of_cut l c q) (omega arith) a.closed;
 }
 
-pub mark_kept : (old new : List Node) (l m : Links) (n k : ℕ) → IsMark old l n k → IsGrown old new → IsLonger l m → IsMark new m n k
+pub mark_kept : (old new : List Node) (l m : Links) (n k : ℕ) → IsMark old l n k → KeepsNodes old new → IsLonger l m → IsMark new m n k
 mark_kept old new l m n k q g more = record {
   nodes_within = omega (arith, q.nodes_within, grown_length old new g);
   links_within = omega (arith, q.links_within, more.longer);
@@ -137,7 +137,7 @@ mark_kept old new l m n k q g more = record {
 }
 
 -- an earlier mark, after a cut at a later one
-pub mark_cut : (nodes : List Node) (l c : Links) (n m j k : ℕ) → IsCut l m c → n ≤ length nodes → j ≤ n → k ≤ m → IsMark nodes l j k → IsMark (take n nodes) c j k
+pub mark_cut : (nodes : List Node) (l c : Links) (n m j k : ℕ) → IsCutBack l m c → n ≤ length nodes → j ≤ n → k ≤ m → IsMark nodes l j k → IsMark (take n nodes) c j k
 mark_cut nodes l c n m j k cut le jn km q = record {
   nodes_within = omega (arith, length-take-le n nodes le);
   links_within = omega (arith, cut.size);
@@ -146,7 +146,7 @@ mark_cut nodes l c n m j k cut le jn km q = record {
   closed = λ d e i p r lt a b. q.closed d (cut_twice l c d m k cut e) i p r lt (take_grown n nodes (get_or d.froms.items i 0) p a) (take_grown n nodes (get_or d.tos.items i 0) r b);
 }
 
-pub arena_cut : (nodes : List Node) (l c : Links) (n m : ℕ) → IsArena nodes l → IsMark nodes l n m → IsCut l m c → IsForest c → length c.place.items ≡ n → IsArena (take n nodes) c
+pub arena_cut : (nodes : List Node) (l c : Links) (n m : ℕ) → IsArena nodes l → IsMark nodes l n m → IsCutBack l m c → IsForest c → length c.place.items ≡ n → IsArena (take n nodes) c
 arena_cut nodes l c n m a q cut forest size = record {
   forest = forest;
   sized = length-take-le n nodes q.nodes_within ∙ sym size;
@@ -157,15 +157,15 @@ arena_cut nodes l c n m a q cut forest size = record {
 }
 
 -- ---- all as before
-pub mark_before : (old new : List Node) (l m : Links) (n k : ℕ) → IsArena old l → IsGrown old new → IsLonger l m → n ≡ length old → k ≡ length l.froms.items → IsMark new m n k
+pub mark_before : (old new : List Node) (l m : Links) (n k : ℕ) → IsArena old l → KeepsNodes old new → IsLonger l m → n ≡ length old → k ≡ length l.froms.items → IsMark new m n k
 mark_before old new l m n k a g more e d = rw (e, d) (mark_kept old new l m (length old) (length l.froms.items) (mark_now old l a) g more)
 
-pub back_by : (old new last : List Node) (l m c : Links) (n k : ℕ) → IsGrown old new → IsLonger l m → n ≡ length old → k ≡ length l.froms.items → last ≡ take n new → IsCut m k c → IsBack old l last c
+pub back_by : (old new last : List Node) (l m c : Links) (n k : ℕ) → KeepsNodes old new → IsLonger l m → n ≡ length old → k ≡ length l.froms.items → last ≡ take n new → IsCutBack m k c → IsBack old l last c
 back_by old new last l m c n k g more e d is cut = record {
   nodes_are = is ∙ (ap (λ z. take z new) e ∙ grown_take old new g);
   more = longer_back l m c more cut.less (cut.size ∙ d);
   less = shorter_back l m c more cut.less (cut.size ∙ d);
 }
 
-pub cut_by : (l m c : Links) (k : ℕ) → IsLonger m l → length m.froms.items ≡ k → c.froms.items ≡ m.froms.items → c.tos.items ≡ m.tos.items → IsCut l k c
+pub cut_by : (l m c : Links) (k : ℕ) → IsLonger m l → length m.froms.items ≡ k → c.froms.items ≡ m.froms.items → c.tos.items ≡ m.tos.items → IsCutBack l k c
 cut_by l m c k less size fs ts = record { less = longer_twice c m l (same_links c m (sym fs) (sym ts)) less; size = ap length fs ∙ size }

@@ -1,6 +1,9 @@
+pub mod Adding
 pub mod Bound
 pub mod Cut
+pub mod Filling
 pub mod Forest
+pub mod Frames
 pub mod Indexed
 pub mod Made
 pub mod Measures
@@ -15,4 +18,5 @@ pub mod Solved
 pub mod Steps
 pub mod Visit
 pub mod Walking
+pub mod Writing
 pub mod Written

@@ -6,8 +6,8 @@ use Rattle.std.proofs.lemmas.Option.{slice_get_within}
 use Rattle.me_unify.specs.declared.links.Links.{Links}
 use Rattle.me_unify.specs.declared.node.Node.{Node}
 use Rattle.me_unify.specs.declared.node.Node.TheVariants.{Var, App}
-use Rattle.me_unify.specs.Linked.{IsForest, IsLonger, HasRoom}
-use Rattle.me_unify.specs.Nodes.{IsArena, IsFresh, IsGrown}
+use Rattle.me_unify.specs.Linked.{IsForest, IsLonger, ArgumentsStandBefore}
+use Rattle.me_unify.specs.Nodes.{IsArena, IsFresh, KeepsNodes}
 use Rattle.me_unify.proofs.Steps.{closed_longer}
 
 pub push_at : (nodes : List Node) (n : Node) (x : ℕ) (p : Node) → slice_get (nodes ++ n ∷ []) x ≡ Some p → (slice_get nodes x ≡ Some p) ⊎ ((x ≡ length nodes) × (p ≡ n))
@@ -16,7 +16,7 @@ push_at [] n (suc x) p e = let z : x < 0 = slice_get_within [] x p e in absurd (
 push_at (m ∷ nodes) n zero p e = inl e
 push_at (m ∷ nodes) n (suc x) p e = elim (push_at nodes n x p e) [ inl q ↦ inl q | inr q ↦ inr (let z : x ≡ length nodes = q.0 in omega arith, q.1) ]
 
-pub grown_push : (nodes : List Node) (n : Node) → IsGrown nodes (nodes ++ n ∷ [])
+pub grown_push : (nodes : List Node) (n : Node) → KeepsNodes nodes (nodes ++ n ∷ [])
 grown_push [] n x p e = let z : x < 0 = slice_get_within [] x p e in absurd (omega (arith, z))
 grown_push (m ∷ nodes) n zero p e = e
 grown_push (m ∷ nodes) n (suc x) p e = grown_push nodes n x p e
@@ -53,7 +53,7 @@ arena_same nodes l m a forest ps fs ts =
     }
 
 pub arena_push : (nodes : List Node) (n : Node) (l m : Links) → IsArena nodes l → IsForest m → length m.place.items ≡ length l.place.items + 1 → m.froms.items ≡ l.froms.items → m.tos.items ≡ l.tos.items
-    → HasRoom (length nodes) n → IsFresh nodes n → IsArena (nodes ++ n ∷ []) m
+    → ArgumentsStandBefore (length nodes) n → IsFresh nodes n → IsArena (nodes ++ n ∷ []) m
 arena_push nodes n l m a forest len fs ts room fresh =
     let lp = length_push nodes n in
     let more = same_links l m fs ts in
@@ -65,7 +65,7 @@ arena_push nodes n l m a forest len fs ts room fresh =
       sized = omega (arith, a.sized);
       fit = λ x p at. elim (push_at nodes n x p at) [
         | inl q ↦ a.fit x p q
-        | inr q ↦ (let at_end : HasRoom x n = rw q.0 room in let P : Node → Type 0 = λ z. HasRoom x z in subst P (sym q.1) at_end)
+        | inr q ↦ (let at_end : ArgumentsStandBefore x n = rw q.0 room in let P : Node → Type 0 = λ z. ArgumentsStandBefore x z in subst P (sym q.1) at_end)
       ];
       directed = λ i p q z lt. let b : i < length l.froms.items = omega arith in
           rw (more.froms i b, more.tos i b) (λ e d. a.directed i p q z b (old_at nodes n (get_or l.froms.items i 0) p (from_in i b) e) (old_at nodes n (get_or l.tos.items i 0) q (to_in i b) d));

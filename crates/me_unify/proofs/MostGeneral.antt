@@ -8,7 +8,7 @@ use Rattle.me_terms.specs.Substitutions.{Substitution, Family, apply_term}
 use Rattle.me_unify.specs.declared.links.Links.{Links}
 use Rattle.me_unify.specs.declared.node.Node.{Node}
 use Rattle.me_unify.specs.declared.node.Node.TheVariants.{Var, App}
-use Rattle.me_unify.specs.Linked.{NONE, Colouring, Respects, Fits, IsMade}
+use Rattle.me_unify.specs.Linked.{NONE, Colouring, Respects, IsColoured, IsTermOf}
 use Rattle.me_unify.specs.Nodes.{AreSingle}
 use Rattle.me_unify.specs.Ordered.{solved, IsSettled}
 use Rattle.me_unify.proofs.Solved.{settled_app, general}
@@ -49,22 +49,22 @@ unfolding pick
 pick_at nodes n h s v x (inl p) single at = ap h (single x p.0 s v at p.1)
 pick_at nodes n h s v x (inr none) single at = absurd (none x at)
 
-made_at : (nodes : List Node) (l : Links) (rank : ℕ → ℕ) (limit : ℕ) (n : Family) → IsSettled nodes l rank limit → AreSingle nodes → (x : ℕ) (v : Node) → slice_get nodes x ≡ Some v → IsMade (family_of nodes l n limit) (solved nodes l n limit) x v
+made_at : (nodes : List Node) (l : Links) (rank : ℕ → ℕ) (limit : ℕ) (n : Family) → IsSettled nodes l rank limit → AreSingle nodes → (x : ℕ) (v : Node) → slice_get nodes x ≡ Some v → IsTermOf (family_of nodes l n limit) (solved nodes l n limit) x v
 unfolding family_of
 made_at nodes l rank limit n o single x (Var s v) at = pick_at nodes n (solved nodes l n limit) s v x (found nodes s v) single at
 made_at nodes l rank limit n o single x (App f args) at = settled_app nodes l rank limit n o NONE x (slice_get_within nodes x (App f args) at) (omega arith) f args at
 
-pick_keeps : (nodes : List Node) (n : Family) (h k : Colouring) (t : Family) (r : Substitution) (s v : ℕ) (f : Found nodes s v) → Fits nodes t k → apply_term r (n s v) ≡ t s v
+pick_keeps : (nodes : List Node) (n : Family) (h k : Colouring) (t : Family) (r : Substitution) (s v : ℕ) (f : Found nodes s v) → IsColoured nodes t k → apply_term r (n s v) ≡ t s v
     → ((x : ℕ) → x < length nodes → apply_term r (h x) ≡ k x) → apply_term r (pick nodes n h s v f) ≡ t s v
 unfolding pick
 pick_keeps nodes n h k t r s v (inl p) fits name keep = keep p.0 (slice_get_within nodes p.0 (Var s v) p.1) ∙ fits p.0 (Var s v) p.1
 pick_keeps nodes n h k t r s v (inr none) fits name keep = name
 
 -- The family's own terms, and how any other solution comes of it.
-pub settled_fits : (nodes : List Node) (l : Links) (rank : ℕ → ℕ) (limit : ℕ) (n : Family) → IsSettled nodes l rank limit → AreSingle nodes → Fits nodes (family_of nodes l n limit) (solved nodes l n limit)
+pub settled_fits : (nodes : List Node) (l : Links) (rank : ℕ → ℕ) (limit : ℕ) (n : Family) → IsSettled nodes l rank limit → AreSingle nodes → IsColoured nodes (family_of nodes l n limit) (solved nodes l n limit)
 settled_fits nodes l rank limit n o single = made_at nodes l rank limit n o single
 
-pub settled_general : (nodes : List Node) (l : Links) (rank : ℕ → ℕ) (limit : ℕ) (n : Family) → IsSettled nodes l rank limit → (t : Family) (h : Colouring) (r : Substitution) → Fits nodes t h → Respects l h
+pub settled_general : (nodes : List Node) (l : Links) (rank : ℕ → ℕ) (limit : ℕ) (n : Family) → IsSettled nodes l rank limit → (t : Family) (h : Colouring) (r : Substitution) → IsColoured nodes t h → Respects l h
     → ((s y : ℕ) → apply_term r (n s y) ≡ t s y) → (s v : ℕ) → apply_term r (family_of nodes l n limit s v) ≡ t s v
 unfolding family_of
 settled_general nodes l rank limit n o t h r fits same names s v =

@@ -6,7 +6,7 @@ use Rattle.me_terms.specs.Substitutions.{Family}
 use Rattle.me_unify.specs.declared.links.Links.{Links}
 use Rattle.me_unify.specs.declared.node.Node.{Node}
 use Rattle.me_unify.specs.declared.node.Node.TheVariants.{App}
-use Rattle.me_unify.specs.Linked.{NONE, Colouring, Fits, Respects}
+use Rattle.me_unify.specs.Linked.{NONE, Colouring, IsColoured, Respects}
 use Rattle.me_unify.specs.Ordered.{HasOrder, IsSettled}
 use Rattle.me_unify.specs.Nodes.{IsArena}
 use Rattle.me_unify.proofs.Visit.{app_lower}
@@ -24,9 +24,9 @@ below_most f (suc n) x lt = elim (cases_eq x n) [
 
 -- the height, and then how late the node is linked
 abbrev rank_of : Links → Colouring → ℕ → ℕ
-rank_of l h x = height (h x) * 4294967296 + (NONE - get_or l.place.items x 0)
+rank_of l h x = height (h x) * 18446744073709551616 + (NONE - get_or l.place.items x 0)
 
-pub ordered_by : (nodes : List Node) (l : Links) → IsArena nodes l → (u : Family) (h : Colouring) → Fits nodes u h → Respects l h → HasOrder nodes l
+pub ordered_by : (nodes : List Node) (l : Links) → IsArena nodes l → (u : Family) (h : Colouring) → IsColoured nodes u h → Respects l h → HasOrder nodes l
 ordered_by nodes l a u h fits same = (
   rank_of l h,
   (
@@ -118,7 +118,7 @@ short nodes l rank limit o = record {
 }
 
 -- a solution orders the nodes by ranks below their number
-pub settled_by : (nodes : List Node) (l : Links) → IsArena nodes l → (u : Family) (h : Colouring) → Fits nodes u h → Respects l h → (rank : ℕ → ℕ) × IsSettled nodes l rank (length nodes)
+pub settled_by : (nodes : List Node) (l : Links) → IsArena nodes l → (u : Family) (h : Colouring) → IsColoured nodes u h → Respects l h → (rank : ℕ → ℕ) × IsSettled nodes l rank (length nodes)
 settled_by nodes l a u h fits same =
     let o = ordered_by nodes l a u h fits same in
     (λ x. lower o.0 (length nodes) (o.0 x), short nodes l o.0 o.1.0 o.1.1)

@@ -14,11 +14,11 @@ use Rattle.me_unify.specs.declared.node.Node.{Node}
 use Rattle.me_unify.specs.declared.node.Node.TheVariants.{Var, App}
 use Rattle.me_unify.specs.declared.step.Step.{Step}
 use Rattle.me_unify.specs.declared.measure.Measure.{Measure}
-use Rattle.me_unify.specs.Linked.{Colouring, Fits, Respects}
+use Rattle.me_unify.specs.Linked.{Colouring, IsColoured, Respects}
 use Rattle.me_unify.specs.Ordered.{of_node, colour, solved, IsSettled}
-use Rattle.me_unify.specs.Nodes.{IsArena, IsGrown}
+use Rattle.me_unify.specs.Nodes.{IsArena, KeepsNodes}
 use Rattle.me_unify.specs.Equations.{SolvesAll, IsMostGeneral}
-use Rattle.me_unify.specs.Marks.{equations_of, AreBound}
+use Rattle.me_unify.specs.Marks.{step_equations, AreBound}
 use Rattle.me_unify.specs.Measured.{AreMeasured, IsReading}
 use Rattle.me_unify.proofs.MoreNodes.{same_links}
 use Rattle.me_unify.proofs.Forest.{respects_less}
@@ -60,9 +60,9 @@ measured_same a b m v q = record {
   ground = q.ground ∙ ground_by a b v.there v.back (are_ground a.args) (are_ground b.args) v.to v.from refl refl;
 }
 
-pub measured_by : (nodes : List Node) (l : Links) (new : List Node) (m : Links) (steps : List Step) → AreBound nodes l steps → IsArena new m → IsGrown nodes new → m.froms.items ≡ l.froms.items → m.tos.items ≡ l.tos.items
-    → (space : ℕ) (args : Arguments) (measure : Measure) → ((t : Family) (h : Colouring) → Fits new t h → IsReading new m h → AreMeasured (apply_arguments (t space) args) measure)
-    → (u : Family) → IsMostGeneral (equations_of nodes steps) u → AreMeasured (apply_arguments (u space) args) measure
+pub measured_by : (nodes : List Node) (l : Links) (new : List Node) (m : Links) (steps : List Step) → AreBound nodes l steps → IsArena new m → KeepsNodes nodes new → m.froms.items ≡ l.froms.items → m.tos.items ≡ l.tos.items
+    → (space : ℕ) (args : Arguments) (measure : Measure) → ((t : Family) (h : Colouring) → IsColoured new t h → IsReading new m h → AreMeasured (apply_arguments (t space) args) measure)
+    → (u : Family) → IsMostGeneral (step_equations nodes steps) u → AreMeasured (apply_arguments (u space) args) measure
 measured_by nodes l new m steps b a g fs ts space args measure each u general =
     let more = same_links l m fs ts in
     let less = same_links m l (sym fs) (sym ts) in
@@ -72,9 +72,9 @@ measured_by nodes l new m steps b a g fs ts space args measure each u general =
     let limit = o.1.0 in
     let settled = o.1.1 in
     let v : Family = family_of new m apart o.1.0 in
-    let fits : Fits new (family_of new m apart o.1.0) (solved new m apart o.1.0) = settled_fits new m o.0 o.1.0 apart o.1.1 a.single in
+    let fits : IsColoured new (family_of new m apart o.1.0) (solved new m apart o.1.0) = settled_fits new m o.0 o.1.0 apart o.1.1 a.single in
     let base : AreMeasured (apply_arguments (family_of new m apart o.1.0 space) args) measure = each (family_of new m apart o.1.0) (solved new m apart o.1.0) fits (reading new m o.0 o.1.0 o.1.1) in
-    let solves : SolvesAll (family_of new m apart o.1.0) (equations_of nodes steps) =
+    let solves : SolvesAll (family_of new m apart o.1.0) (step_equations nodes steps) =
     (says nodes l steps b (family_of new m apart o.1.0) (solved new m apart o.1.0) (fits_less nodes new (family_of new m apart o.1.0) (solved new m apart o.1.0) g fits)).0
     (respects_less l m (solved new m apart o.1.0) more (settled_respects new m o.0 o.1.0 apart o.1.1)) in
     let back = general.most_general (family_of new m apart o.1.0) solves in

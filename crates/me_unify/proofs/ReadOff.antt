@@ -21,7 +21,7 @@ use Rattle.me_unify.specs.Linked.{NONE, Alike, coloured}
 use Rattle.me_unify.specs.Nodes.{IsArena}
 use Rattle.me_unify.specs.Ordered.{of_node, IsSettled}
 use Rattle.me_unify.specs.Equations.{Equation, IsMostGeneral}
-use Rattle.me_unify.specs.Marks.{equations_of, AreBound, IsSolved}
+use Rattle.me_unify.specs.Marks.{step_equations, AreBound, IsSolved}
 use Rattle.me_unify.specs.Left.{term_at, IsRead}
 use Rattle.me_unify.proofs.Solved.{settled_free, settled_respects}
 use Rattle.me_unify.proofs.MostGeneral.{family_of, family_others, settled_fits}
@@ -63,7 +63,7 @@ args_within nodes l x v f args a at is i lt =
 
 -- ---- a most general unifier that is read off
 pub record IsReadUnifier (nodes : List Node) (l : Links) (steps : List Step) (v : Family) : Type 0 where
-  pub general : IsMostGeneral (equations_of nodes steps) v
+  pub general : IsMostGeneral (step_equations nodes steps) v
   pub read : IsRead nodes l v
 
 pub reads : (nodes : List Node) (l : Links) (steps : List Step) → AreBound nodes l steps → (v : Family) × IsReadUnifier nodes l steps v

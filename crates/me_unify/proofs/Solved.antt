@@ -9,7 +9,7 @@ use Rattle.me_terms.specs.Substitutions.{Substitution, Family, apply_term, apply
 use Rattle.me_unify.specs.declared.links.Links.{Links}
 use Rattle.me_unify.specs.declared.node.Node.{Node}
 use Rattle.me_unify.specs.declared.node.Node.TheVariants.{Var, App}
-use Rattle.me_unify.specs.Linked.{NONE, IsForest, Colouring, Respects, IsClosed, coloured, Fits, IsMade}
+use Rattle.me_unify.specs.Linked.{NONE, IsForest, Colouring, Respects, ArgumentsAreAlike, coloured, IsColoured, IsTermOf}
 use Rattle.me_unify.specs.Ordered.{of_node, solved, IsSettled}
 use Rattle.std.proofs.lemmas.Grind.{common_steps}
 use Rattle.me_unify.proofs.Steps.{coloured_same}
@@ -86,7 +86,7 @@ settled_respects nodes l rank limit n o k lt =
     let ne : get_or l.place.items (get_or l.froms.items k 0) 0 ≢ NONE = λ e. let z : k ≡ NONE = sym b ∙ e in omega (arith, z, o.forest.total, o.forest.small) in
     settled_linked nodes l rank limit n o (get_or l.froms.items k 0) w ne ∙ ap (λ z. solved nodes l n limit (get_or l.tos.items z 0)) b
 
-joined_down : (l : Links) (h : Colouring) (f : ℕ) (args : Vec ℕ Global) (q : Node) (x p : ℕ) → Respects l h → IsClosed l (App f args) q → h x ≡ h p
+joined_down : (l : Links) (h : Colouring) (f : ℕ) (args : Vec ℕ Global) (q : Node) (x p : ℕ) → Respects l h → ArgumentsAreAlike l (App f args) q → h x ≡ h p
     → ((g : ℕ) (others : Vec ℕ Global) → q ≡ App g others → h p ≡ tree.App g (coloured h others.items)) → h x ≡ tree.App f (coloured h args.items)
 joined_down l h f args (Var s v) x p r closed e down = absurd closed
 joined_down l h f args (App g others) x p r closed e down =
@@ -130,14 +130,14 @@ subst_coloured r g h (x ∷ xs) e =
     let others = subst_coloured r g h xs (λ i lt. e (suc i) (omega arith)) in
     λ i. Cons (first i) (others i)
 
-subst_node : (r : Substitution) (n : Family) (t : Family) (g h : Colouring) (x : ℕ) (v : Node) → ((s y : ℕ) → apply_term r (n s y) ≡ t s y) → IsMade t h x v
+subst_node : (r : Substitution) (n : Family) (t : Family) (g h : Colouring) (x : ℕ) (v : Node) → ((s y : ℕ) → apply_term r (n s y) ≡ t s y) → IsTermOf t h x v
     → ((f : ℕ) (args : Vec ℕ Global) → v ≡ App f args → (i : ℕ) → i < length args.items → apply_term r (g (get_or args.items i 0)) ≡ h (get_or args.items i 0))
     → apply_term r (of_node n g (Some v)) ≡ h x
 subst_node r n t g h x (Var s y) names made each = names s y ∙ sym made
 subst_node r n t g h x (App f args) names made each = ap (tree.App f) (subst_coloured r g h args.items (each f args refl)) ∙ sym made
 
 pub general : (nodes : List Node) (l : Links) (rank : ℕ → ℕ) (limit : ℕ) (n : Family) → IsSettled nodes l rank limit
-    → (t : Family) (h : Colouring) (r : Substitution) → Fits nodes t h → Respects l h → ((s y : ℕ) → apply_term r (n s y) ≡ t s y)
+    → (t : Family) (h : Colouring) (r : Substitution) → IsColoured nodes t h → Respects l h → ((s y : ℕ) → apply_term r (n s y) ≡ t s y)
     → (k x : ℕ) → x < length nodes → rank x < k → apply_term r (solved nodes l n k x) ≡ h x
 general nodes l rank limit n o t h r fits same names zero x within lt = absurd (omega arith)
 general nodes l rank limit n o t h r fits same names (suc k) x within lt =

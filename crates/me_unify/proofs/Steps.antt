@@ -8,7 +8,7 @@ use Rattle.me_terms.specs.Substitutions.{Family}
 use Rattle.me_unify.specs.declared.links.Links.{Links}
 use Rattle.me_unify.specs.declared.node.Node.{Node}
 use Rattle.me_unify.specs.declared.node.Node.TheVariants.{Var, App}
-use Rattle.me_unify.specs.Linked.{Colouring, Alike, IsLonger, AreJoined, IsClosed, AreClosed, ArePairClosed, IsUnder, AreDirected, coloured, Fits, AreNodes}
+use Rattle.me_unify.specs.Linked.{Colouring, Alike, IsLonger, AreJoined, ArgumentsAreAlike, AreClosed, ArePairClosed, IsUnder, AreDirected, coloured, IsColoured, AreNodes}
 use Rattle.me_unify.proofs.Forest.{respects_less}
 
 pub alike_longer : (l m : Links) (x y : ℕ) → IsLonger l m → Alike l x y → Alike m x y
@@ -21,7 +21,7 @@ longer_twice l m n p q = record {
   tos = λ k lt. let b : k < length m.froms.items = omega (arith, p.longer) in q.tos k b ∙ p.tos k lt;
 }
 
-pub closed_longer : (l m : Links) (p q : Node) → IsLonger l m → IsClosed l p q → IsClosed m p q
+pub closed_longer : (l m : Links) (p q : Node) → IsLonger l m → ArgumentsAreAlike l p q → ArgumentsAreAlike m p q
 closed_longer l m (Var s v) q more h = tt
 closed_longer l m (App f xs) (Var s v) more h = h
 closed_longer l m (App f xs) (App g ys) more h = record {
@@ -38,7 +38,7 @@ closed_more nodes l m k more within old new under j p q lt = elim (cases_lt j k)
   | inl below ↦ (let b : j < length l.froms.items = omega arith in
       rw (more.froms j b, more.tos j b) (λ a b. closed_longer l m p q more (old j p q below a b)))
   | inr ge ↦ (let e : j ≡ k = omega arith in
-      let P : ℕ → Type 0 = λ z. slice_get nodes (get_or m.froms.items z 0) ≡ Some p → slice_get nodes (get_or m.tos.items z 0) ≡ Some q → IsClosed m p q in
+      let P : ℕ → Type 0 = λ z. slice_get nodes (get_or m.froms.items z 0) ≡ Some p → slice_get nodes (get_or m.tos.items z 0) ≡ Some q → ArgumentsAreAlike m p q in
       subst P (sym e) (rw (more.froms k within, more.tos k within) (λ a b. new p q a b (under p q a b))))
 ]
 
@@ -72,7 +72,7 @@ coloured_same h (x ∷ xs) (y ∷ ys) e each =
     let others = coloured_same h xs ys (omega arith) (λ i lt. each (suc i) (omega arith)) in
     λ i. Cons (first i) (others i)
 
-pub fits_app : (nodes : List Node) (t : Family) (h : Colouring) (x : ℕ) (v : Node) (f : ℕ) (args : Vec ℕ Global) → x < length nodes → v ≡ get_or nodes x v → v ≡ App f args → Fits nodes t h
+pub fits_app : (nodes : List Node) (t : Family) (h : Colouring) (x : ℕ) (v : Node) (f : ℕ) (args : Vec ℕ Global) → x < length nodes → v ≡ get_or nodes x v → v ≡ App f args → IsColoured nodes t h
     → h x ≡ tree.App f (coloured h args.items)
 fits_app nodes t h x v f args within is app fits =
     let there : slice_get nodes x ≡ Some (App f args) = slice_get-get_or nodes x v within ∙ ap Some (sym is ∙ app) in
@@ -85,7 +85,7 @@ room_app nodes x v f args within is app fit =
     λ i lt. let a : get_or args.items i 0 < x = fit x (App f args) there i lt in omega arith
 
 pub step_parts : (nodes : List Node) (t : Family) (h : Colouring) (a b : ℕ) (v w : Node) (f g : ℕ) (xs ys : Vec ℕ Global) → a < length nodes → b < length nodes
-    → v ≡ get_or nodes a v → w ≡ get_or nodes b w → v ≡ App f xs → w ≡ App g ys → Fits nodes t h → h a ≡ h b → AreParts h f g xs.items ys.items
+    → v ≡ get_or nodes a v → w ≡ get_or nodes b w → v ≡ App f xs → w ≡ App g ys → IsColoured nodes t h → h a ≡ h b → AreParts h f g xs.items ys.items
 step_parts nodes t h a b v w f g xs ys ha hb va wb va' wb' fits e =
     let left = fits_app nodes t h a v f xs ha va va' fits in
     let right = fits_app nodes t h b w g ys hb wb wb' fits in
@@ -98,13 +98,13 @@ step_parts nodes t h a b v w f g xs ys ha hb va wb va' wb' fits e =
 pub there : (nodes : List Node) (x : ℕ) (v p w : Node) → v ≡ get_or nodes x v → v ≡ w → slice_get nodes x ≡ Some p → p ≡ w
 there nodes x v p w is app at = sym (get_or_from_slice_get nodes x p v at) ∙ (sym is ∙ app)
 
-pub closed_apps : (m : Links) (p q : Node) (f g : ℕ) (xs ys : Vec ℕ Global) → p ≡ App f xs → q ≡ App g ys → AreJoined m f g xs.items ys.items → IsClosed m p q
+pub closed_apps : (m : Links) (p q : Node) (f g : ℕ) (xs ys : Vec ℕ Global) → p ≡ App f xs → q ≡ App g ys → AreJoined m f g xs.items ys.items → ArgumentsAreAlike m p q
 closed_apps m p q f g xs ys e d j = rw (e, d) j
 
-pub closed_var : (m : Links) (p q : Node) (s v : ℕ) → p ≡ Var s v → IsClosed m p q
+pub closed_var : (m : Links) (p q : Node) (s v : ℕ) → p ≡ Var s v → ArgumentsAreAlike m p q
 closed_var m p q s v e = rw e tt
 
-pub closed_never : (m : Links) (p q : Node) (f s v : ℕ) (xs : Vec ℕ Global) → p ≡ App f xs → q ≡ Var s v → IsUnder p q → IsClosed m p q
+pub closed_never : (m : Links) (p q : Node) (f s v : ℕ) (xs : Vec ℕ Global) → p ≡ App f xs → q ≡ Var s v → IsUnder p q → ArgumentsAreAlike m p q
 closed_never m p q f s v xs e d u = absurd (rw (e, d) at u)
 
 any_default : (xs : List ℕ) (k d e : ℕ) → k < length xs → get_or xs k d ≡ get_or xs k e

@@ -11,7 +11,7 @@ use Rattle.me_unify.specs.declared.links.Links.{Links}
 use Rattle.me_unify.specs.declared.node.Node.{Node}
 use Rattle.me_unify.specs.declared.node.Node.TheVariants.{Var, App}
 use Rattle.me_unify.specs.Linked.{NONE, IsForest, AreNodes, AreClosed, Colouring, coloured}
-use Rattle.me_unify.specs.Ordered.{IsBefore, LeadsTo, IsOrdered, HasOrder, IsSequence}
+use Rattle.me_unify.specs.Ordered.{IsDoneBefore, LeadsBefore, IsOrdered, HasOrder, IsSequence}
 
 pub white_less : (o : List ℕ) (x : ℕ) → x < length o → get_or o x 0 ≡ 0 → count_by (λ m. eqb m 0) (set o x 1) + 1 ≡ count_by (λ m. eqb m 0) o
 white_less o x h white =
@@ -41,12 +41,12 @@ fewer_white o x c h open_one big =
     let g = rw small at f in
     omega (arith, g)
 
-before_set : (o : List ℕ) (x c n y : ℕ) → x < length o → get_or o x 0 < 2 → IsBefore o n y → IsBefore (set o x c) n y
+before_set : (o : List ℕ) (x c n y : ℕ) → x < length o → get_or o x 0 < 2 → IsDoneBefore o n y → IsDoneBefore (set o x c) n y
 before_set o x c n y h small b =
     let ne : y ≢ x = λ e. let z : get_or o y 0 ≡ get_or o x 0 = ap (λ w. get_or o w 0) e in omega (arith, b.0, z) in
     rw (get_or-set_other o x y c 0 ne) b
 
-leads_set : (nodes : List Node) (l : Links) (o : List ℕ) (x c n y : ℕ) → x < length o → get_or o x 0 < 2 → LeadsTo nodes l o n y → LeadsTo nodes l (set o x c) n y
+leads_set : (nodes : List Node) (l : Links) (o : List ℕ) (x c n y : ℕ) → x < length o → get_or o x 0 < 2 → LeadsBefore nodes l o n y → LeadsBefore nodes l (set o x c) n y
 leads_set nodes l o x c n y h small q = record {
   linked = λ ne. before_set o x c n _ h small (q.linked ne);
   apps = λ e f args at i lt. before_set o x c n _ h small (q.apps e f args at i lt);
@@ -75,7 +75,7 @@ entered nodes l o count x list q h white =
 pub room_left : (nodes : List Node) (l : Links) (o : List ℕ) (count x : ℕ) (list : List ℕ) → IsOrdered nodes l o count list → x < length o → get_or o x 0 ≡ 1 → count < length list + 2
 room_left nodes l o count x list q h grey = omega (arith, q.room, q.sized, q.listed_size, less_room o x count h grey q.above)
 
-pub finished : (nodes : List Node) (l : Links) (o : List ℕ) (count x : ℕ) (list : List ℕ) → IsOrdered nodes l o count list → x < length o → get_or o x 0 ≡ 1 → LeadsTo nodes l o count x
+pub finished : (nodes : List Node) (l : Links) (o : List ℕ) (count x : ℕ) (list : List ℕ) → IsOrdered nodes l o count list → x < length o → get_or o x 0 ≡ 1 → LeadsBefore nodes l o count x
     → IsOrdered nodes l (set o x count) (count + 1) (set list (count - 2) x)
 finished nodes l o count x list q h grey leads =
     let len : length (set o x count) ≡ length o = length-set o x count in
@@ -94,7 +94,7 @@ finished nodes l o count x list q h grey leads =
         | inr ne ↦ (let k = get_or-set_other o x y count 0 ne in let f = q.below y (omega arith) (rw k at b) in rw k (omega arith))
       ];
       done = λ y w b. elim (cases_eq y x) [
-        | inl e ↦ (let P : ℕ → Type 0 = λ z. LeadsTo nodes l (set o x count) (get_or (set o x count) z 0) z in
+        | inl e ↦ (let P : ℕ → Type 0 = λ z. LeadsBefore nodes l (set o x count) (get_or (set o x count) z 0) z in
             subst P (sym e) (rw here (leads_set nodes l o x count count x h (omega arith) leads)))
         | inr ne ↦ (let k = get_or-set_other o x y count 0 ne in
             rw k (leads_set nodes l o x count (get_or o y 0) y h (omega arith) (q.done y (omega arith) (rw k at b))))
@@ -130,19 +130,19 @@ arg_lower h (x ∷ xs) (suc i) lt = let r = arg_lower h xs i (omega arith) in om
 pub app_lower : (h : Colouring) (x f : ℕ) (args : List ℕ) (i : ℕ) → h x ≡ tree.App f (coloured h args) → i < length args → height (h (get_or args i 0)) < height (h x)
 app_lower h x f args i e lt = let z : height (h x) ≡ 1 + heights (coloured h args) = ap height e in let r = arg_lower h args i lt in omega arith
 
-pub leads_var : (nodes : List Node) (l : Links) (o : List ℕ) (n x s v : ℕ) → get_or l.place.items x 0 ≡ NONE → ((w : Node) → slice_get nodes x ≡ Some w → w ≡ Var s v) → LeadsTo nodes l o n x
+pub leads_var : (nodes : List Node) (l : Links) (o : List ℕ) (n x s v : ℕ) → get_or l.place.items x 0 ≡ NONE → ((w : Node) → slice_get nodes x ≡ Some w → w ≡ Var s v) → LeadsBefore nodes l o n x
 leads_var nodes l o n x s v e is = record {
   linked = λ ne. absurd (ne e);
   apps = λ z f args at i lt. let q : App f args ≡ Var s v = is (App f args) at in cc;
 }
 
 pub leads_app : (nodes : List Node) (l : Links) (o : List ℕ) (n x f : ℕ) (args : Vec ℕ Global) → get_or l.place.items x 0 ≡ NONE → ((w : Node) → slice_get nodes x ≡ Some w → w ≡ App f args)
-    → ((i : ℕ) → i < length args.items → IsBefore o n (get_or args.items i 0)) → LeadsTo nodes l o n x
+    → ((i : ℕ) → i < length args.items → IsDoneBefore o n (get_or args.items i 0)) → LeadsBefore nodes l o n x
 leads_app nodes l o n x f args e is each = record {
   linked = λ ne. absurd (ne e);
   apps = λ z g others at i lt. let q : App g others ≡ App f args = is (App g others) at in
       let same : others ≡ args = cc in
-      let P : Vec ℕ Global → Type 0 = λ v. i < length v.items → IsBefore o n (get_or v.items i 0) in
+      let P : Vec ℕ Global → Type 0 = λ v. i < length v.items → IsDoneBefore o n (get_or v.items i 0) in
       subst P (sym same) (each i) lt;
 }
 

@@ -8,8 +8,8 @@ use Rattle.me_unify.specs.declared.links.Links.{Links}
 use Rattle.me_unify.specs.declared.node.Node.{Node}
 use Rattle.me_unify.specs.declared.node.Node.TheVariants.{App}
 use Rattle.me_unify.specs.declared.walk.Walk.{Walk}
-use Rattle.me_unify.specs.Linked.{NONE, Colouring, Fits, Respects}
-use Rattle.me_unify.specs.Ordered.{IsOver, IsOrdered, LeadsTo}
+use Rattle.me_unify.specs.Linked.{NONE, Colouring, IsColoured, Respects}
+use Rattle.me_unify.specs.Ordered.{IsHigher, IsOrdered, LeadsBefore}
 use Rattle.me_unify.specs.Walked.{AreReached, AreBefore, AreOpen, IsAbove, IsWalk}
 use Rattle.me_unify.proofs.Visit.{entered, finished, leads_app, app_lower}
 
@@ -32,13 +32,13 @@ pub reached_set : (nodes : List Node) (o r : List ℕ) (x c : ℕ) → get_or o 
 reached_set nodes o r x c small q z f args at i lt le = done_set o x c (get_or args.items i 0) small (q z f args at i lt le)
 
 -- ---- what is above what
-pub over_twice : (l : Links) (h : Colouring) (x y z : ℕ) → IsOver l h x y → IsOver l h y z → IsOver l h x z
+pub over_twice : (l : Links) (h : Colouring) (x y z : ℕ) → IsHigher l h x y → IsHigher l h y z → IsHigher l h x z
 over_twice l h x y z (inl a) (inl b) = inl (omega arith)
 over_twice l h x y z (inl a) (inr b) = inl (omega (arith, b.0))
 over_twice l h x y z (inr a) (inl b) = inl (omega (arith, a.0))
 over_twice l h x y z (inr a) (inr b) = inr (omega (arith, a.0, b.0), omega (arith, a.1, b.1))
 
-pub over_never : (l : Links) (h : Colouring) (x : ℕ) → IsOver l h x x → ⊥
+pub over_never : (l : Links) (h : Colouring) (x : ℕ) → IsHigher l h x x → ⊥
 over_never l h x (inl a) = omega arith
 over_never l h x (inr a) = omega (arith, a.1)
 
@@ -57,10 +57,10 @@ above_all nodes l o st last x y q len is low i lt =
 
 -- The last open node is above none that is open.
 pub no_circle : (nodes : List Node) (l : Links) (o st : List ℕ) (last x y : ℕ) → AreOpen nodes l o st → last + 1 ≡ length st → x ≡ get_or st last 0 → IsAbove nodes l x y
-    → y < length nodes → get_or o y 0 ≡ 1 → (t : Family) (h : Colouring) → Fits nodes t h → Respects l h → ⊥
+    → y < length nodes → get_or o y 0 ≡ 1 → (t : Family) (h : Colouring) → IsColoured nodes t h → Respects l h → ⊥
 no_circle nodes l o st last x y q len is low within grey t h fits same =
     let r = q.listed y within grey in
-    let P : ℕ → Type 0 = λ z. IsOver l h z y in
+    let P : ℕ → Type 0 = λ z. IsHigher l h z y in
     over_never l h y (subst P r.1.1 (above_all nodes l o st last x y q len is low r.0 r.1.0 t h fits same))
 
 -- ---- one more is open
@@ -140,7 +140,7 @@ reached_more nodes o r x n f args within at q each z g others is i lt le = elim 
 
 pub leads_all : (nodes : List Node) (l : Links) (o : List ℕ) (n x f : ℕ) (args : Vec ℕ Global) → length o ≡ length nodes → get_or l.place.items x 0 ≡ NONE → ((w : Node) → slice_get nodes x ≡ Some w → w ≡ App f args)
     → ((i : ℕ) → i < length args.items → get_or args.items i 0 < length nodes) → ((i : ℕ) → i < length args.items → 2 ≤ get_or o (get_or args.items i 0) 0)
-    → AreBefore o n → LeadsTo nodes l o n x
+    → AreBefore o n → LeadsBefore nodes l o n x
 leads_all nodes l o n x f args sized free is room each before =
     leads_app nodes l o n x f args free is (λ i lt. let a : get_or args.items i 0 < length o = let r = room i lt in omega arith in (each i lt, before (get_or args.items i 0) a (each i lt)))
 
@@ -162,7 +162,7 @@ walk_enter nodes l w o li r st count y ordered sized reached opened eo es el ec 
     }
 
 pub walk_leave : (nodes : List Node) (l : Links) (w : Walk) (o li r st : List ℕ) (count last x : ℕ) → IsOrdered nodes l o count li → length r ≡ length nodes → AreReached nodes o r → AreOpen nodes l o st
-    → last + 1 ≡ length st → x ≡ get_or st last 0 → LeadsTo nodes l o count x
+    → last + 1 ≡ length st → x ≡ get_or st last 0 → LeadsBefore nodes l o count x
     → w.order.items ≡ set o x count → w.list.items ≡ set li (count - 2) x → w.count ≡ count + 1 → w.reached.items ≡ r → w.stack.items ≡ take last st → IsWalk nodes l w
 walk_leave nodes l w o li r st count last x ordered sized reached opened len is leads eo el ec er es =
     let grey : get_or o x 0 ≡ 1 = ap (λ z. get_or o z 0) is ∙ opened.marked last (omega arith) in

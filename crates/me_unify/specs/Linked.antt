@@ -8,7 +8,7 @@ use Rattle.me_unify.specs.declared.node.Node.TheVariants as node
 
 -- where a node that is not linked stands
 abbrev pub NONE : ℕ
-NONE = 0xffff_ffff
+NONE = 0xffff_ffff_ffff_ffff
 
 -- A linked node: its link, and that the node that it goes to is linked later or not at all.
 pub record IsLinked (place froms tos : List ℕ) (x : ℕ) : Type 0 where
@@ -44,21 +44,21 @@ abbrev pub coloured : Colouring → List ℕ → Arguments
 coloured h xs = arguments_of (map h xs)
 
 -- The term of a node is what the family makes of it.
-abbrev pub IsMade : Family → Colouring → ℕ → Node → Type 0
-IsMade t h x (node.Var space var) = h x ≡ t space var
-IsMade t h x (node.App f args) = h x ≡ App f (coloured h args.items)
+abbrev pub IsTermOf : Family → Colouring → ℕ → Node → Type 0
+IsTermOf t h x (node.Var space var) = h x ≡ t space var
+IsTermOf t h x (node.App f args) = h x ≡ App f (coloured h args.items)
 
-abbrev pub Fits : List Node → Family → Colouring → Type 0
-Fits nodes t h = (x : ℕ) (n : Node) → slice_get nodes x ≡ Some n → IsMade t h x n
+abbrev pub IsColoured : List Node → Family → Colouring → Type 0
+IsColoured nodes t h = (x : ℕ) (n : Node) → slice_get nodes x ≡ Some n → IsTermOf t h x n
 
 -- The arguments stand before n.
-abbrev pub HasRoom : ℕ → Node → Type 0
-HasRoom n (node.Var space var) = Unit {0}
-HasRoom n (node.App f args) = (k : ℕ) → k < length args.items → slice_index args.items k < n
+abbrev pub ArgumentsStandBefore : ℕ → Node → Type 0
+ArgumentsStandBefore n (node.Var space var) = Unit {0}
+ArgumentsStandBefore n (node.App f args) = (k : ℕ) → k < length args.items → slice_index args.items k < n
 
 -- Arguments stand before what they are arguments of.
 abbrev pub AreNodes : List Node → Type 0
-AreNodes nodes = (x : ℕ) (n : Node) → slice_get nodes x ≡ Some n → HasRoom x n
+AreNodes nodes = (x : ℕ) (n : Node) → slice_get nodes x ≡ Some n → ArgumentsStandBefore x n
 
 -- A function is linked to a function only.
 abbrev pub IsUnder : Node → Node → Type 0
@@ -85,17 +85,17 @@ pub record AreJoined (l : Links) (f g : ℕ) (xs ys : List ℕ) : Type 0 where
   pub lengths : length xs ≡ length ys
   pub each : (i : ℕ) → i < length xs → Alike l (slice_index xs i) (slice_index ys i)
 
-abbrev pub IsClosed : Links → Node → Node → Type 0
-IsClosed l (node.Var space var) n = Unit {0}
-IsClosed l (node.App f args) (node.Var space var) = ⊥
-IsClosed l (node.App f args) (node.App g others) = AreJoined l f g args.items others.items
+abbrev pub ArgumentsAreAlike : Links → Node → Node → Type 0
+ArgumentsAreAlike l (node.Var space var) n = Unit {0}
+ArgumentsAreAlike l (node.App f args) (node.Var space var) = ⊥
+ArgumentsAreAlike l (node.App f args) (node.App g others) = AreJoined l f g args.items others.items
 
 -- The first n links have been followed into the arguments.
 abbrev pub AreClosed : List Node → Links → ℕ → Type 0
 AreClosed nodes l n =
-    (k : ℕ) (p q : Node) → k < n → slice_get nodes (slice_index l.froms.items k) ≡ Some p → slice_get nodes (slice_index l.tos.items k) ≡ Some q → IsClosed l p q
+    (k : ℕ) (p q : Node) → k < n → slice_get nodes (slice_index l.froms.items k) ≡ Some p → slice_get nodes (slice_index l.tos.items k) ≡ Some q → ArgumentsAreAlike l p q
 
 -- the same of two nodes
 abbrev pub ArePairClosed : List Node → Links → ℕ → ℕ → Type 0
 ArePairClosed nodes l a b =
-    (p q : Node) → slice_get nodes a ≡ Some p → slice_get nodes b ≡ Some q → IsUnder p q → IsClosed l p q
+    (p q : Node) → slice_get nodes a ≡ Some p → slice_get nodes b ≡ Some q → IsUnder p q → ArgumentsAreAlike l p q

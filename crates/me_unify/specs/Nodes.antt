@@ -22,5 +22,5 @@ pub record IsArena (nodes : List Node) (l : Links) : Type 0 where
   pub single : AreSingle nodes
 
 -- What stood, stands.
-abbrev pub IsGrown : List Node → List Node → Type 0
-IsGrown old new = (x : ℕ) (n : Node) → slice_get old x ≡ Some n → slice_get new x ≡ Some n
+abbrev pub KeepsNodes : List Node → List Node → Type 0
+KeepsNodes old new = (x : ℕ) (n : Node) → slice_get old x ≡ Some n → slice_get new x ≡ Some n

@@ -9,14 +9,14 @@ use Rattle.me_terms.specs.Substitutions.{Family}
 use Rattle.me_unify.specs.Linked.{NONE, IsForest, Colouring, AreNodes, AreClosed}
 
 -- What is done, stands before n.
-abbrev pub IsBefore : List ℕ → ℕ → ℕ → Type 0
-IsBefore order n y = (2 ≤ slice_index order y) × (slice_index order y < n)
+abbrev pub IsDoneBefore : List ℕ → ℕ → ℕ → Type 0
+IsDoneBefore order n y = (2 ≤ slice_index order y) × (slice_index order y < n)
 
 -- What a node leads to stands before n: the node that it is linked to, or else its arguments.
-pub record LeadsTo (nodes : List Node) (l : Links) (order : List ℕ) (n x : ℕ) : Type 0 where
-  pub linked : slice_index l.place.items x ≢ NONE → IsBefore order n (slice_index l.tos.items (slice_index l.place.items x))
+pub record LeadsBefore (nodes : List Node) (l : Links) (order : List ℕ) (n x : ℕ) : Type 0 where
+  pub linked : slice_index l.place.items x ≢ NONE → IsDoneBefore order n (slice_index l.tos.items (slice_index l.place.items x))
   pub apps : slice_index l.place.items x ≡ NONE → (f : ℕ) (args : Vec ℕ Global) → slice_get nodes x ≡ Some (node.App f args)
-      → (i : ℕ) → i < length args.items → IsBefore order n (slice_index args.items i)
+      → (i : ℕ) → i < length args.items → IsDoneBefore order n (slice_index args.items i)
 
 -- Marks: 0 for a node that was not seen, 1 for one that is open, and else the place of a node that is done.
 -- The list has the nodes that are done by their places.
@@ -25,14 +25,14 @@ pub record IsOrdered (nodes : List Node) (l : Links) (order : List ℕ) (count :
   pub above : 2 ≤ count
   pub room : count + count_by (λ m. ltb m 2) order ≤ length order + 2
   pub below : (x : ℕ) → x < length order → 2 ≤ slice_index order x → slice_index order x < count
-  pub done : (x : ℕ) → x < length order → 2 ≤ slice_index order x → LeadsTo nodes l order (slice_index order x) x
+  pub done : (x : ℕ) → x < length order → 2 ≤ slice_index order x → LeadsBefore nodes l order (slice_index order x) x
   pub listed_size : length list ≡ length nodes
   pub listed : (x : ℕ) → x < length order → 2 ≤ slice_index order x → slice_index list (slice_index order x - 2) ≡ x
   pub placed : (p : ℕ) → p + 2 < count → (slice_index list p < length order) × (slice_index order (slice_index list p) ≡ p + 2)
 
 -- The node's term is higher, or as high and the node is linked earlier.
-abbrev pub IsOver : Links → Colouring → ℕ → ℕ → Type 0
-IsOver l h x y =
+abbrev pub IsHigher : Links → Colouring → ℕ → ℕ → Type 0
+IsHigher l h x y =
     (height (h y) < height (h x)) ⊎ ((height (h y) ≡ height (h x)) × (slice_index l.place.items x < slice_index l.place.items y))
 
 -- Every link is followed, and the ranks, all below the limit, fall from each node to what it leads to.
@@ -64,9 +64,9 @@ of_node t below (Some (node.Var space var)) = t space var
 of_node t below (Some (node.App f args)) = App f (arguments_of (map below args.items))
 
 -- A node's term under a family, k steps deep.
-abbrev pub written : List Node → Family → ℕ → Colouring
-written nodes t zero x = Var 0
-written nodes t (suc k) x = of_node t (written nodes t k) (slice_get nodes x)
+abbrev pub written_out : List Node → Family → ℕ → Colouring
+written_out nodes t zero x = Var 0
+written_out nodes t (suc k) x = of_node t (written_out nodes t k) (slice_get nodes x)
 
 -- A node's term, k steps deep, where linked nodes have one term and the family names the variables that are left.
 abbrev pub solved : List Node → Links → Family → ℕ → Colouring
@@ -77,4 +77,4 @@ solved nodes l t (suc k) x =
 
 -- A node's term under a family.
 abbrev pub colour : List Node → Family → Colouring
-colour nodes t x = written nodes t (suc x) x
+colour nodes t x = written_out nodes t (suc x) x

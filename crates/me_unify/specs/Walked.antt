@@ -6,8 +6,8 @@ use Rattle.me_unify.specs.declared.links.Links.{Links}
 use Rattle.me_unify.specs.declared.node.Node.{Node}
 use Rattle.me_unify.specs.declared.node.Node.TheVariants as node
 use Rattle.me_unify.specs.declared.walk.Walk.{Walk}
-use Rattle.me_unify.specs.Linked.{Colouring, Fits, Respects}
-use Rattle.me_unify.specs.Ordered.{IsOrdered, IsOver}
+use Rattle.me_unify.specs.Linked.{Colouring, IsColoured, Respects}
+use Rattle.me_unify.specs.Ordered.{IsOrdered, IsHigher}
 
 -- Of each node as many arguments are done as the list says.
 abbrev pub AreReached : List Node → List ℕ → List ℕ → Type 0
@@ -21,7 +21,7 @@ AreBefore order n = (x : ℕ) → x < length order → 2 ≤ slice_index order x
 
 -- Wherever linked nodes have one term, the first node's is over the second's.
 abbrev pub IsAbove : List Node → Links → ℕ → ℕ → Type 0
-IsAbove nodes l x y = (t : Family) (h : Colouring) → Fits nodes t h → Respects l h → IsOver l h x y
+IsAbove nodes l x y = (t : Family) (h : Colouring) → IsColoured nodes t h → Respects l h → IsHigher l h x y
 
 -- The list has the nodes that are open, each once, and each is above all that are behind it.
 pub record AreOpen (nodes : List Node) (l : Links) (order : List ℕ) (open_ones : List ℕ) : Type 0 where

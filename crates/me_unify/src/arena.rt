@@ -5,12 +5,12 @@ ghost use Rattle.std.specs.Prelude.{◌≡◌, ℕ, ◌<◌, ◌↔◌, OnErr, I
 ghost use Rattle.me_terms.specs.Substitutions.{Family, apply_term, apply_arguments};
 ghost use Rattle.me_terms.specs.Terms.{arguments_of, App as AppTerm};
 ghost use Rattle.me_terms.specs.TermViews.{term_value};
-ghost use Rattle.me_unify.specs.Linked.{Respects, Colouring, Fits, HasRoom, IsLonger, coloured};
-ghost use Rattle.me_unify.specs.Nodes.{IsArena, IsFresh, IsGrown};
+ghost use Rattle.me_unify.specs.Linked.{Respects, Colouring, IsColoured, ArgumentsStandBefore, IsLonger, coloured};
+ghost use Rattle.me_unify.specs.Nodes.{IsArena, IsFresh, KeepsNodes};
 ghost use Rattle.me_unify.specs.Ordered.{HasOrder};
 ghost use Rattle.me_unify.specs.Equations.{equation};
 ghost use Rattle.me_unify.specs.Measured.{AreMeasured, IsReading};
-ghost use Rattle.me_unify.specs.Marks.{IsSolved, IsCut, IsMark, IsPosed, AreApart, IsBack};
+ghost use Rattle.me_unify.specs.Marks.{IsSolved, IsCutBack, IsMark, IsPosed, AreApart, IsBack};
 
 use crate::links::Links;
 use crate::measure::{Measure, measure_all};
@@ -27,6 +27,15 @@ pub(crate) struct Arena {
     pub(crate) links: Links,
 }
 
+/// A term of which some arguments have nodes: its function, those nodes, and the arguments behind the one
+/// that is being copied.
+#[derive(Drop)]
+pub(crate) struct Adding<'a> {
+    f: u32,
+    made: Vec<usize>,
+    rest: &'a [Term],
+}
+
 impl Arena {
     pub(crate) fn new(alloc: Global) -> Arena
         ensures arena { IsArena result.nodes result.links }
@@ -40,12 +49,12 @@ impl Arena {
     }
 
     /// Adds a node.
-    pub(crate) fn push(&mut self, node: Node) -> Result<u32, AllocError>
+    pub(crate) fn push(&mut self, node: Node) -> Result<usize, AllocError>
         requires arena { IsArena self.old.nodes self.old.links }
-        requires room { HasRoom (length self.old.nodes) node }
+        requires room { ArgumentsStandBefore (length self.old.nodes) node }
         requires fresh { IsFresh self.old.nodes node }
         ensures arena { IsArena self.new.nodes self.new.links }
-        ensures grown { IsGrown self.old.nodes self.new.nodes }
+        ensures grown { KeepsNodes self.old.nodes self.new.nodes }
         ensures at { IfOk result (λ x. slice_get self.new.nodes x ≡ Some node) }
         ensures froms { self.new.links.froms.items ≡ self.old.links.froms.items }
         ensures tos { self.new.links.tos.items ≡ self.old.links.tos.items }
@@ -53,7 +62,7 @@ impl Arena {
         let x = self.nodes.len();
         self.nodes.push(node)?;
         match self.links.grow() {
-            Ok(()) => Ok(x as u32),
+            Ok(()) => Ok(x),
             Err(error) => {
                 self.nodes.truncate(x);
                 Err(error)
@@ -62,10 +71,10 @@ impl Arena {
     }
 
     /// The node of a variable.
-    pub(crate) fn var(&mut self, space: u32, var: u32) -> Result<u32, AllocError>
+    pub(crate) fn var(&mut self, space: u32, var: u32) -> Result<usize, AllocError>
         requires arena { IsArena self.old.nodes self.old.links }
         ensures arena { IsArena self.new.nodes self.new.links }
-        ensures grown { IsGrown self.old.nodes self.new.nodes }
+        ensures grown { KeepsNodes self.old.nodes self.new.nodes }
         ensures at { IfOk result (λ x. slice_get self.new.nodes x ≡ Some (Node.Var space var)) }
         ensures froms { self.new.links.froms.items ≡ self.old.links.froms.items }
         ensures tos { self.new.links.tos.items ≡ self.old.links.tos.items }
@@ -77,7 +86,7 @@ impl Arena {
     }
 
     /// The two nodes become equal, or the links stay and nothing makes them equal.
-    pub(crate) fn equate(&mut self, alloc: Global, x: u32, y: u32) -> Result<bool, AllocError>
+    pub(crate) fn equate(&mut self, alloc: Global, x: usize, y: usize) -> Result<bool, AllocError>
         requires arena { IsArena self.old.nodes self.old.links }
         requires left { x < length self.old.nodes }
         requires right { y < length self.old.nodes }
@@ -85,58 +94,66 @@ impl Arena {
         ensures nodes { self.new.nodes ≡ self.old.nodes }
         ensures more { IsLonger self.old.links self.new.links }
         ensures settled { IfOk result (λ answer. IsTrue answer → HasOrder self.new.nodes self.new.links) }
-        ensures yes { IfOk result (λ answer. IsTrue answer → (t : Family) (h : Colouring) → Fits self.old.nodes t h → (Respects self.old.links h × (h x ≡ h y)) ↔ Respects self.new.links h) }
-        ensures no { IfOk result (λ answer. answer ≡ false → (t : Family) (h : Colouring) → Fits self.old.nodes t h → Respects self.old.links h → ¬ (h x ≡ h y)) }
+        ensures yes { IfOk result (λ answer. IsTrue answer → (t : Family) (h : Colouring) → IsColoured self.old.nodes t h → (Respects self.old.links h × (h x ≡ h y)) ↔ Respects self.new.links h) }
+        ensures no { IfOk result (λ answer. answer ≡ false → (t : Family) (h : Colouring) → IsColoured self.old.nodes t h → Respects self.old.links h → ¬ (h x ≡ h y)) }
         ensures back { IfOk result (λ answer. answer ≡ false → IsLonger self.new.links self.old.links) }
         ensures err { OnErr result (IsLonger self.new.links self.old.links) }
     {
         self.links.equate(alloc, self.nodes.as_slice(), x, y)
     }
 
-    /// A node whose term is the given one, with the variables of a space.
-    #[cycle(add)]
-    pub(crate) fn add(&mut self, alloc: Global, space: u32, term: &Term) -> Result<u32, AllocError>
-        requires arena { IsArena self.old.nodes self.old.links }
-        ensures arena { IsArena self.new.nodes self.new.links }
-        ensures grown { IsGrown self.old.nodes self.new.nodes }
-        ensures within { IfOk result (λ x. x < length self.new.nodes) }
-        ensures made { (t : Family) (h : Colouring) → Fits self.new.nodes t h → IfOk result (λ x. h x ≡ apply_term (t space) (term_value term.now)) }
-        ensures froms { self.new.links.froms.items ≡ self.old.links.froms.items }
-        ensures tos { self.new.links.tos.items ≡ self.old.links.tos.items }
-    {
-        match term {
-            Term::Var(x) => self.var(space, *x),
-            Term::App { f, args } => {
-                let args = self.add_all(alloc, space, args)?;
-                self.push(Node::App { f: *f, args })
-            }
-        }
-    }
-
-    #[cycle(add)]
+    /// Nodes whose terms are the given ones, with the variables of a space. It takes a list of its own for
+    /// the terms that are not copied to their end.
     pub(crate) fn add_all(
         &mut self,
         alloc: Global,
         space: u32,
         terms: &Terms,
-    ) -> Result<Vec<u32>, AllocError>
+    ) -> Result<Vec<usize>, AllocError>
         requires arena { IsArena self.old.nodes self.old.links }
         ensures arena { IsArena self.new.nodes self.new.links }
-        ensures grown { IsGrown self.old.nodes self.new.nodes }
+        ensures grown { KeepsNodes self.old.nodes self.new.nodes }
         ensures within { IfOk result (λ xs. (i : ℕ) → i < length xs.items → slice_index xs.items i < length self.new.nodes) }
-        ensures made { (t : Family) (h : Colouring) → Fits self.new.nodes t h → IfOk result (λ xs. coloured h xs.items ≡ apply_arguments (t space) (arguments_of terms.now.items)) }
+        ensures made { (t : Family) (h : Colouring) → IsColoured self.new.nodes t h → IfOk result (λ xs. coloured h xs.items ≡ apply_arguments (t space) (arguments_of terms.now.items)) }
         ensures froms { self.new.links.froms.items ≡ self.old.links.froms.items }
         ensures tos { self.new.links.tos.items ≡ self.old.links.tos.items }
     {
-        let mut made = Vec::new(alloc);
-        for k in 0..terms.len() {
-            let Some(term) = terms.get(k) else {
-                unreachable!();
-            };
-            let x = self.add(alloc, space, term)?;
-            made.push(x)?;
+        let mut above: Vec<Adding<'_>> = Vec::new(alloc);
+        let mut rest = terms.as_slice();
+        let mut made: Vec<usize> = Vec::with_capacity(alloc, rest.len())?;
+        'terms: loop {
+            if let Some((first, others)) = rest.split_first() {
+                match first {
+                    Term::Var(x) => {
+                        let node = self.var(space, *x)?;
+                        made.push(node)?;
+                        rest = others;
+                    }
+                    Term::App { f, args } => {
+                        above.push(Adding {
+                            f: *f,
+                            made,
+                            rest: others,
+                        })?;
+                        rest = args.as_slice();
+                        made = Vec::with_capacity(alloc, rest.len())?;
+                    }
+                }
+            } else {
+                let Some(frame) = above.pop() else {
+                    return Ok(made);
+                };
+                let Adding {
+                    f,
+                    made: before,
+                    rest: others,
+                } = frame;
+                let node = self.push(Node::App { f, args: made })?;
+                made = before;
+                made.push(node)?;
+                rest = others;
+            }
         }
-        Ok(made)
     }
 
     pub(crate) fn add_atom(
@@ -144,12 +161,12 @@ impl Arena {
         alloc: Global,
         space: u32,
         atom: &Atom,
-    ) -> Result<u32, AllocError>
+    ) -> Result<usize, AllocError>
         requires arena { IsArena self.old.nodes self.old.links }
         ensures arena { IsArena self.new.nodes self.new.links }
-        ensures grown { IsGrown self.old.nodes self.new.nodes }
+        ensures grown { KeepsNodes self.old.nodes self.new.nodes }
         ensures at { IfOk result (λ x. x < length self.new.nodes) }
-        ensures made { (t : Family) (h : Colouring) → Fits self.new.nodes t h → IfOk result (λ x. h x ≡ AppTerm atom.now.pred (apply_arguments (t space) atom.now.args)) }
+        ensures made { (t : Family) (h : Colouring) → IsColoured self.new.nodes t h → IfOk result (λ x. h x ≡ AppTerm atom.now.pred (apply_arguments (t space) atom.now.args)) }
         ensures froms { self.new.links.froms.items ≡ self.old.links.froms.items }
         ensures tos { self.new.links.tos.items ≡ self.old.links.tos.items }
     {
@@ -169,7 +186,7 @@ impl Arena {
     ) -> Result<Option<Sides>, AllocError>
         requires arena { IsArena self.old.nodes self.old.links }
         ensures arena { IsArena self.new.nodes self.new.links }
-        ensures grown { IsGrown self.old.nodes self.new.nodes }
+        ensures grown { KeepsNodes self.old.nodes self.new.nodes }
         ensures more { IsLonger self.old.links self.new.links }
         ensures some { IfOk result (λ answer. IfSome answer (λ sides. IsPosed self.old.nodes self.old.links self.new.nodes self.new.links (equation ls left.now rs right.now) sides)) }
         ensures none { IfOk result (λ answer. answer ≡ None → AreApart self.old.nodes self.old.links (equation ls left.now rs right.now)) }
@@ -190,7 +207,7 @@ impl Arena {
         requires mark { IsMark self.old.nodes self.old.links nodes links }
         ensures arena { IsArena self.new.nodes self.new.links }
         ensures nodes { self.new.nodes ≡ take nodes self.old.nodes }
-        ensures links { IsCut self.old.links links self.new.links }
+        ensures links { IsCutBack self.old.links links self.new.links }
     {
         self.links.undo(links);
         self.links.shrink(nodes);
@@ -238,8 +255,8 @@ impl Arena {
         requires arena { IsArena self.old.nodes self.old.links }
         requires solution { IsSolved self.old.nodes self.old.links }
         ensures arena { IsArena self.new.nodes self.new.links }
-        ensures grown { IsGrown self.old.nodes self.new.nodes }
-        ensures measure { IfOk result (λ m. (t : Family) (h : Colouring) → Fits self.new.nodes t h → IsReading self.new.nodes self.new.links h → AreMeasured (apply_arguments (t space) (arguments_of terms.now.items)) m) }
+        ensures grown { KeepsNodes self.old.nodes self.new.nodes }
+        ensures measure { IfOk result (λ m. (t : Family) (h : Colouring) → IsColoured self.new.nodes t h → IsReading self.new.nodes self.new.links h → AreMeasured (apply_arguments (t space) (arguments_of terms.now.items)) m) }
         ensures froms { self.new.links.froms.items ≡ self.old.links.froms.items }
         ensures tos { self.new.links.tos.items ≡ self.old.links.tos.items }
     {

@@ -34,9 +34,9 @@ impl Model for Bindings {
 
     ghost coded = { equations_code };
 
-    ghost use Rattle.me_unify.specs.Marks.{equations_of, AreBound};
+    ghost use Rattle.me_unify.specs.Marks.{step_equations, AreBound};
 
-    ghost view = { λ b. equations_of b.arena.nodes b.steps.items };
+    ghost view = { λ b. step_equations b.arena.nodes b.steps.items };
 
     ghost invariant = { λ b. AreBound b.arena.nodes b.arena.links b.steps.items };
 }

@@ -3,7 +3,7 @@
 //! Each link is followed once, and what it says of the arguments is linked behind it.
 ghost use Rattle.std.specs.Prelude.{◌≡◌, ℕ, ◌<◌, ◌≤◌, OnOk, IfOk, IsTrue, false, length, slice_index};
 ghost use Rattle.me_terms.specs.Substitutions.{Family};
-ghost use Rattle.me_unify.specs.Linked.{IsForest, Respects, Alike, Colouring, Fits, AreNodes, AreDirected, IsLonger, AreClosed, ArePairClosed};
+ghost use Rattle.me_unify.specs.Linked.{IsForest, Respects, Alike, Colouring, IsColoured, AreNodes, AreDirected, IsLonger, AreClosed, ArePairClosed};
 
 use crate::links::Links;
 use crate::node::Node;
@@ -14,8 +14,8 @@ impl Links {
     pub(crate) fn join_all(
         &mut self,
         nodes: &[Node],
-        xs: &[u32],
-        ys: &[u32],
+        xs: &[usize],
+        ys: &[usize],
     ) -> Result<(), AllocError>
         requires forest { IsForest self.old }
         requires nodes { length nodes.now ≡ length self.old.place.items }
@@ -37,7 +37,7 @@ impl Links {
     }
 
     /// Makes the arguments of two nodes equal, or says that nothing does.
-    pub(crate) fn step(&mut self, nodes: &[Node], a: u32, b: u32) -> Result<bool, AllocError>
+    pub(crate) fn step(&mut self, nodes: &[Node], a: usize, b: usize) -> Result<bool, AllocError>
         requires forest { IsForest self.old }
         requires nodes { length nodes.now ≡ length self.old.place.items }
         requires fit { AreNodes nodes.now }
@@ -48,11 +48,11 @@ impl Links {
         ensures size { length self.new.place.items ≡ length self.old.place.items }
         ensures directed { AreDirected nodes.now self.new }
         ensures more { IsLonger self.old self.new }
-        ensures same { (t : Family) (h : Colouring) → Fits nodes.now t h → Respects self.old h → h a ≡ h b → Respects self.new h }
+        ensures same { (t : Family) (h : Colouring) → IsColoured nodes.now t h → Respects self.old h → h a ≡ h b → Respects self.new h }
         ensures yes { IfOk result (λ answer. IsTrue answer → ArePairClosed nodes.now self.new a b) }
-        ensures no { IfOk result (λ answer. answer ≡ false → (t : Family) (h : Colouring) → Fits nodes.now t h → ¬ (h a ≡ h b)) }
+        ensures no { IfOk result (λ answer. answer ≡ false → (t : Family) (h : Colouring) → IsColoured nodes.now t h → ¬ (h a ≡ h b)) }
     {
-        match (&nodes[a as usize], &nodes[b as usize]) {
+        match (&nodes[a], &nodes[b]) {
             (Node::App { f, args }, Node::App { f: g, args: others }) => {
                 if *f != *g || args.len() != others.len() {
                     return Ok(false);
@@ -76,9 +76,9 @@ impl Links {
         ensures size { length self.new.place.items ≡ length self.old.place.items }
         ensures directed { AreDirected nodes.now self.new }
         ensures more { IsLonger self.old self.new }
-        ensures same { (t : Family) (h : Colouring) → Fits nodes.now t h → Respects self.old h → Respects self.new h }
+        ensures same { (t : Family) (h : Colouring) → IsColoured nodes.now t h → Respects self.old h → Respects self.new h }
         ensures yes { IfOk result (λ answer. IsTrue answer → AreClosed nodes.now self.new (length self.new.froms.items)) }
-        ensures no { IfOk result (λ answer. answer ≡ false → (t : Family) (h : Colouring) → Fits nodes.now t h → ¬ Respects self.old h) }
+        ensures no { IfOk result (λ answer. answer ≡ false → (t : Family) (h : Colouring) → IsColoured nodes.now t h → ¬ Respects self.old h) }
     {
         let mut k = start;
         'links: while k < self.froms.len() {

@@ -3,7 +3,7 @@
 //! The answer is exact: it is no only where no terms make the linked nodes and these two equal.
 ghost use Rattle.std.specs.Prelude.{◌≡◌, ℕ, ◌<◌, ◌↔◌, OnErr, IfOk, IsTrue, false, length};
 ghost use Rattle.me_terms.specs.Substitutions.{Family};
-ghost use Rattle.me_unify.specs.Linked.{IsForest, Respects, Colouring, Fits, AreNodes, AreDirected, IsLonger, AreClosed};
+ghost use Rattle.me_unify.specs.Linked.{IsForest, Respects, Colouring, IsColoured, AreNodes, AreDirected, IsLonger, AreClosed};
 ghost use Rattle.me_unify.specs.Ordered.{HasOrder};
 
 use crate::links::Links;
@@ -16,8 +16,8 @@ impl Links {
         &mut self,
         alloc: Global,
         nodes: &[Node],
-        x: u32,
-        y: u32,
+        x: usize,
+        y: usize,
     ) -> Result<bool, AllocError>
         requires forest { IsForest self.old }
         requires nodes { length nodes.now ≡ length self.old.place.items }
@@ -32,8 +32,8 @@ impl Links {
         ensures more { IsLonger self.old self.new }
         ensures closed { IfOk result (λ answer. IsTrue answer → AreClosed nodes.now self.new (length self.new.froms.items)) }
         ensures settled { IfOk result (λ answer. IsTrue answer → HasOrder nodes.now self.new) }
-        ensures yes { IfOk result (λ answer. IsTrue answer → (t : Family) (h : Colouring) → Fits nodes.now t h → (Respects self.old h × (h x ≡ h y)) ↔ Respects self.new h) }
-        ensures no { IfOk result (λ answer. answer ≡ false → (t : Family) (h : Colouring) → Fits nodes.now t h → Respects self.old h → ¬ (h x ≡ h y)) }
+        ensures yes { IfOk result (λ answer. IsTrue answer → (t : Family) (h : Colouring) → IsColoured nodes.now t h → (Respects self.old h × (h x ≡ h y)) ↔ Respects self.new h) }
+        ensures no { IfOk result (λ answer. answer ≡ false → (t : Family) (h : Colouring) → IsColoured nodes.now t h → Respects self.old h → ¬ (h x ≡ h y)) }
     {
         let mark = self.froms.len();
         self.join(nodes, x, y)?;
@@ -48,8 +48,8 @@ impl Links {
         &mut self,
         alloc: Global,
         nodes: &[Node],
-        x: u32,
-        y: u32,
+        x: usize,
+        y: usize,
     ) -> Result<bool, AllocError>
         requires forest { IsForest self.old }
         requires nodes { length nodes.now ≡ length self.old.place.items }
@@ -64,8 +64,8 @@ impl Links {
         ensures closed { AreClosed nodes.now self.new (length self.new.froms.items) }
         ensures more { IsLonger self.old self.new }
         ensures settled { IfOk result (λ answer. IsTrue answer → HasOrder nodes.now self.new) }
-        ensures yes { IfOk result (λ answer. IsTrue answer → (t : Family) (h : Colouring) → Fits nodes.now t h → (Respects self.old h × (h x ≡ h y)) ↔ Respects self.new h) }
-        ensures no { IfOk result (λ answer. answer ≡ false → (t : Family) (h : Colouring) → Fits nodes.now t h → Respects self.old h → ¬ (h x ≡ h y)) }
+        ensures yes { IfOk result (λ answer. IsTrue answer → (t : Family) (h : Colouring) → IsColoured nodes.now t h → (Respects self.old h × (h x ≡ h y)) ↔ Respects self.new h) }
+        ensures no { IfOk result (λ answer. answer ≡ false → (t : Family) (h : Colouring) → IsColoured nodes.now t h → Respects self.old h → ¬ (h x ≡ h y)) }
         ensures back { IfOk result (λ answer. answer ≡ false → IsLonger self.new self.old) }
         ensures err { OnErr result (IsLonger self.new self.old) }
     {

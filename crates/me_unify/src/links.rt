@@ -12,13 +12,13 @@ use std::alloc::{AllocError, Global};
 /// stands in `froms`.
 #[derive(Drop)]
 pub(crate) struct Links {
-    pub(crate) place: Vec<u32>,
-    pub(crate) froms: Vec<u32>,
-    pub(crate) tos: Vec<u32>,
+    pub(crate) place: Vec<usize>,
+    pub(crate) froms: Vec<usize>,
+    pub(crate) tos: Vec<usize>,
 }
 
 /// The place of a node that is not linked.
-pub(crate) const FREE: u32 = 0xffff_ffff;
+pub(crate) const FREE: usize = usize::MAX;
 
 impl Links {
     pub(crate) fn new(alloc: Global) -> Self
@@ -42,15 +42,12 @@ impl Links {
         ensures froms { self.new.froms.items ≡ self.old.froms.items }
         ensures tos { self.new.tos.items ≡ self.old.tos.items }
     {
-        if self.place.len() >= FREE as usize {
-            return Err(AllocError);
-        }
         self.place.push(FREE)?;
         Ok(())
     }
 
     /// The last node that a node is linked to.
-    pub(crate) fn find(&self, x: u32) -> u32
+    pub(crate) fn find(&self, x: usize) -> usize
         requires forest { IsForest self.now }
         requires within { x < length self.now.place.items }
         ensures within { result < length self.now.place.items }
@@ -59,16 +56,16 @@ impl Links {
     {
         let mut at = x;
         'walk: loop {
-            let k = self.place[at as usize];
+            let k = self.place[at];
             if k == FREE {
                 return at;
             }
-            at = self.tos[k as usize];
+            at = self.tos[k];
         }
     }
 
     /// Makes two nodes equal. A variable is linked to what is none.
-    pub(crate) fn join(&mut self, nodes: &[Node], x: u32, y: u32) -> Result<(), AllocError>
+    pub(crate) fn join(&mut self, nodes: &[Node], x: usize, y: usize) -> Result<(), AllocError>
         requires forest { IsForest self.old }
         requires nodes { length nodes.now ≡ length self.old.place.items }
         requires left { x < length self.old.place.items }
@@ -87,7 +84,7 @@ impl Links {
         if a == b {
             return Ok(());
         }
-        if let Node::Var { space: _, var: _ } = &nodes[a as usize] {
+        if let Node::Var { space: _, var: _ } = &nodes[a] {
             self.link(a, b)
         } else {
             self.link(b, a)
@@ -95,7 +92,7 @@ impl Links {
     }
 
     /// Links a node that is not linked yet to another that is not.
-    pub(crate) fn link(&mut self, a: u32, b: u32) -> Result<(), AllocError>
+    pub(crate) fn link(&mut self, a: usize, b: usize) -> Result<(), AllocError>
         requires forest { IsForest self.old }
         requires from { a < length self.old.place.items }
         requires to { b < length self.old.place.items }
@@ -113,8 +110,8 @@ impl Links {
     {
         self.froms.reserve(1)?;
         self.tos.reserve(1)?;
-        let k = self.froms.len() as u32;
-        self.place[a as usize] = k;
+        let k = self.froms.len();
+        self.place[a] = k;
         self.froms.push_reserved(a);
         self.tos.push_reserved(b);
         Ok(())
@@ -131,7 +128,7 @@ impl Links {
     {
         let last = self.froms.len() - 1;
         let a = self.froms[last];
-        self.place[a as usize] = FREE;
+        self.place[a] = FREE;
         self.froms.truncate(last);
         self.tos.truncate(last);
     }

@@ -26,7 +26,7 @@ const VARIABLE: Measure = Measure {
 };
 
 /// Of the terms of several nodes: the sum of their weights, the greatest depth, and whether all are ground.
-pub(crate) fn measure_all(measures: &[Measure], xs: &[u32]) -> Measure
+pub(crate) fn measure_all(measures: &[Measure], xs: &[usize]) -> Measure
     requires within { (i : ℕ) → i < length xs.now → slice_index xs.now i < length measures.now }
     ensures { (h : Colouring) → ((i : ℕ) → i < length xs.now → IsHeld h measures.now (slice_index xs.now i)) → AreMeasured (coloured h xs.now) result }
 {
@@ -36,7 +36,7 @@ pub(crate) fn measure_all(measures: &[Measure], xs: &[u32]) -> Measure
         ground: true,
     };
     for x in xs {
-        let one = measures[*x as usize];
+        let one = measures[*x];
         all = Measure {
             weight: all.weight.saturating_add(one.weight),
             depth: all.depth.max(one.depth),
@@ -48,7 +48,7 @@ pub(crate) fn measure_all(measures: &[Measure], xs: &[u32]) -> Measure
 
 impl Links {
     /// The measure of a node's term, where those of what it leads to are held.
-    pub(crate) fn measure_at(&self, nodes: &[Node], measures: &[Measure], x: u32) -> Measure
+    pub(crate) fn measure_at(&self, nodes: &[Node], measures: &[Measure], x: usize) -> Measure
         requires forest { IsForest self.now }
         requires nodes { length nodes.now ≡ length self.now.place.items }
         requires fit { AreNodes nodes.now }
@@ -56,11 +56,11 @@ impl Links {
         requires size { length measures.now ≡ length nodes.now }
         ensures { (h : Colouring) → IsReading nodes.now self.now h → IsHeldBelow nodes.now self.now h measures.now x → IsMeasure (h x) result }
     {
-        let k = self.place[x as usize];
+        let k = self.place[x];
         if k != FREE {
-            return measures[self.tos[k as usize] as usize];
+            return measures[self.tos[k]];
         }
-        match &nodes[x as usize] {
+        match &nodes[x] {
             Node::Var { space: _, var: _ } => VARIABLE,
             Node::App { f: _, args } => {
                 let all = measure_all(measures, args);
@@ -78,7 +78,7 @@ impl Links {
         &self,
         alloc: Global,
         nodes: &[Node],
-        list: &[u32],
+        list: &[usize],
     ) -> Result<Vec<Measure>, AllocError>
         requires sequence { IsSequence nodes.now self.now list.now }
         ensures size { IfOk result (λ measures. length measures.items ≡ length nodes.now) }
@@ -87,7 +87,7 @@ impl Links {
         let mut measures: Vec<Measure> = vec![in alloc; VARIABLE; nodes.len()]?;
         for x in list {
             let measure = self.measure_at(nodes, &measures, *x);
-            measures[*x as usize] = measure;
+            measures[*x] = measure;
         }
         Ok(measures)
     }

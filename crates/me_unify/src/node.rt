@@ -6,5 +6,5 @@
 #[derive(Drop)]
 pub(crate) enum Node {
     Var { space: u32, var: u32 },
-    App { f: u32, args: Vec<u32> },
+    App { f: u32, args: Vec<usize> },
 }

@@ -3,7 +3,7 @@
 //! A contract sees a list of nodes. Each variable has one node there at most.
 ghost use Rattle.std.specs.Prelude.{◌≡◌, ◌-◌, ◌<◌, ◌∷◌, [], ◌++◌, ◌^◌, IfSome, OnOk, OnErr, None, Some, length, take, slice_get};
 ghost use Rattle.me_unify.specs.Nodes.{IsFresh};
-ghost use Rattle.me_unify.specs.Indexed.{IsNoted, IsForgotten};
+ghost use Rattle.me_unify.specs.Indexed.{IsNodeNoted, IsForgotten};
 
 use crate::node::Node;
 use indexmap::IndexMap;
@@ -14,7 +14,7 @@ use std::marker::Model;
 #[derive(Drop)]
 pub(crate) struct NodeList {
     items: Vec<Node>,
-    places: IndexMap<(u32, u32), u32>,
+    places: IndexMap<(u32, u32), usize>,
 }
 
 impl Model for NodeList {
@@ -31,8 +31,8 @@ impl Model for NodeList {
 }
 
 /// Notes where a node stands, if it is that of a variable.
-fn note(places: &mut IndexMap<(u32, u32), u32>, node: &Node, x: u32) -> Result<(), AllocError>
-    ensures ok { OnOk result (IsNoted node.now x places.old.entries places.new.entries) }
+fn note(places: &mut IndexMap<(u32, u32), usize>, node: &Node, x: usize) -> Result<(), AllocError>
+    ensures ok { OnOk result (IsNodeNoted node.now x places.old.entries places.new.entries) }
     ensures err { OnErr result (places.new.entries ≡ places.old.entries) }
 {
     match node {
@@ -45,7 +45,7 @@ fn note(places: &mut IndexMap<(u32, u32), u32>, node: &Node, x: u32) -> Result<(
 }
 
 /// Forgets where a node stood, if it was that of a variable.
-fn forget(places: &mut IndexMap<(u32, u32), u32>, node: Node)
+fn forget(places: &mut IndexMap<(u32, u32), usize>, node: Node)
     ensures { IsForgotten node places.old.entries places.new.entries }
 {
     match node {
@@ -82,15 +82,15 @@ impl NodeList {
     }
 
     /// The node of that number.
-    pub(crate) fn node(&self, x: u32) -> &Node
+    pub(crate) fn node(&self, x: usize) -> &Node
         requires { x < length self.now }
         ensures { slice_get self.now x ≡ Some result.now }
     {
-        &self.items[x as usize]
+        &self.items[x]
     }
 
     /// The node of a variable. None where it has none.
-    pub(crate) fn find(&self, space: u32, var: u32) -> Option<u32>
+    pub(crate) fn find(&self, space: u32, var: u32) -> Option<usize>
         ensures some { IfSome result (λ x. slice_get self.now x ≡ Some (Node.Var space var)) }
         ensures none { result ≡ None → IsFresh self.now (Node.Var space var) }
     {
@@ -99,13 +99,12 @@ impl NodeList {
 
     /// Puts a node at the end. A variable must be new. Where memory is out all is as before.
     pub(crate) fn push(&mut self, node: Node) -> Result<(), AllocError>
-        requires short { length self.old < 2 ^ 32 }
         requires fresh { IsFresh self.old node }
         ensures ok { OnOk result (self.new ≡ self.old ++ node ∷ []) }
         ensures err { OnErr result (self.new ≡ self.old) }
     {
         self.items.reserve(1)?;
-        let x = self.items.len() as u32;
+        let x = self.items.len();
         note(&mut self.places, &node, x)?;
         self.items.push_reserved(node);
         Ok(())

@@ -4,7 +4,7 @@
 //! make the linked nodes equal.
 ghost use Rattle.std.specs.Prelude.{◌≡◌, IfOk, IfSome, IsTrue, false, None, length};
 ghost use Rattle.me_terms.specs.Substitutions.{Family};
-ghost use Rattle.me_unify.specs.Linked.{IsForest, Respects, Colouring, Fits, AreNodes, AreClosed};
+ghost use Rattle.me_unify.specs.Linked.{IsForest, Respects, Colouring, IsColoured, AreNodes, AreClosed};
 ghost use Rattle.me_unify.specs.Ordered.{HasOrder, IsSequence};
 
 use crate::links::Links;
@@ -19,22 +19,22 @@ impl Links {
         &self,
         alloc: Global,
         nodes: &[Node],
-    ) -> Result<Option<Vec<u32>>, AllocError>
+    ) -> Result<Option<Vec<usize>>, AllocError>
         requires forest { IsForest self.now }
         requires nodes { length nodes.now ≡ length self.now.place.items }
         requires fit { AreNodes nodes.now }
         requires closed { AreClosed nodes.now self.now (length self.now.froms.items) }
         ensures some { IfOk result (λ answer. IfSome answer (λ list. IsSequence nodes.now self.now list.items)) }
-        ensures none { IfOk result (λ answer. answer ≡ None → (t : Family) (h : Colouring) → Fits nodes.now t h → ¬ Respects self.now h) }
+        ensures none { IfOk result (λ answer. answer ≡ None → (t : Family) (h : Colouring) → IsColoured nodes.now t h → ¬ Respects self.now h) }
     {
         let mut walk = Walk::new(alloc, self, nodes)?;
         for x in 0..nodes.len() {
-            if !walk.visit(self, nodes, x as u32)? {
+            if !walk.visit(self, nodes, x)? {
                 return Ok(None);
             }
         }
         let mut list = walk.list;
-        list.truncate((walk.count - 2) as usize);
+        list.truncate(walk.count - 2);
         Ok(Some(list))
     }
 
@@ -45,7 +45,7 @@ impl Links {
         requires fit { AreNodes nodes.now }
         requires closed { AreClosed nodes.now self.now (length self.now.froms.items) }
         ensures yes { IfOk result (λ answer. IsTrue answer → HasOrder nodes.now self.now) }
-        ensures no { IfOk result (λ answer. answer ≡ false → (t : Family) (h : Colouring) → Fits nodes.now t h → ¬ Respects self.now h) }
+        ensures no { IfOk result (λ answer. answer ≡ false → (t : Family) (h : Colouring) → IsColoured nodes.now t h → ¬ Respects self.now h) }
     {
         match self.ordered(alloc, nodes)? {
             Some(_) => Ok(true),

@@ -1,7 +1,7 @@
 //! Literals under the unifier, written out.
 //!
-//! The walk follows links to a node that is not linked, and goes on into its arguments. A variable that is
-//! left becomes the number of its place among those that were met so far.
+//! The walk follows links to a node that is not linked, and goes on into its arguments, in depth with a stack
+//! of its own. A variable that is left becomes the number of its place among those that were met so far.
 ghost use Rattle.std.specs.Prelude.{◌≡◌, ℕ, ◌<◌, ◌++◌, ◌∷◌, [], List, OnOk, IfOk, length, slice_index};
 ghost use Rattle.me_laws.specs.Pairing.{pair};
 ghost use Rattle.me_terms.specs.TermViews.{term_value};
@@ -35,14 +35,22 @@ fn number(names: &mut IndexSet<(u32, u32)>, space: u32, var: u32) -> Result<u32,
     Ok(place as u32)
 }
 
+/// A term of which some arguments are written: its function, those arguments, and the nodes of those behind
+/// the one that is being written.
+#[derive(Drop)]
+pub(crate) struct Writing<'a> {
+    f: u32,
+    made: Terms,
+    rest: &'a [usize],
+}
+
 impl Arena {
     /// The term of a node.
-    #[cycle(write_node)]
     fn write_node(
         &self,
         alloc: Global,
         names: &mut IndexSet<(u32, u32)>,
-        x: u32,
+        x: usize,
     ) -> Result<Term, AllocError>
         requires arena { IsArena self.now.nodes self.now.links }
         requires solution { IsSolved self.now.nodes self.now.links }
@@ -60,12 +68,12 @@ impl Arena {
         }
     }
 
-    #[cycle(write_node)]
+    /// The terms of nodes. It takes a list of its own for the terms that are not written to their end.
     fn write_nodes(
         &self,
         alloc: Global,
         names: &mut IndexSet<(u32, u32)>,
-        xs: &[u32],
+        xs: &[usize],
     ) -> Result<Terms, AllocError>
         requires arena { IsArena self.now.nodes self.now.links }
         requires solution { IsSolved self.now.nodes self.now.links }
@@ -73,14 +81,47 @@ impl Arena {
         ensures names { OnOk result (numbers names.new.keys ≡ first_ones (numbers names.old.keys) (variables_of (coloured (term_at self.now.nodes self.now.links) xs.now))) }
         ensures terms { IfOk result (λ form. (later : List ℕ) → arguments_of form.items ≡ apply_arguments (by_place (numbers names.new.keys ++ later)) (coloured (term_at self.now.nodes self.now.links) xs.now)) }
     {
+        let mut above: Vec<Writing<'_>> = Vec::new(alloc);
+        let mut rest = xs;
         let mut made = Terms::new(alloc);
-        for k in 0..xs.len() {
-            let form = self.write_node(alloc, names, xs[k])?;
-            let Ok(()) = made.push(form) else {
-                return Err(AllocError);
-            };
+        'nodes: loop {
+            if let Some((first, others)) = rest.split_first() {
+                let last = self.links.find(*first);
+                match self.nodes.node(last) {
+                    Node::Var { space, var } => {
+                        let x = number(names, *space, *var)?;
+                        if made.push(Term::Var(x)).is_err() {
+                            return Err(AllocError);
+                        }
+                        rest = others;
+                    }
+                    Node::App { f, args } => {
+                        above.push(Writing {
+                            f: *f,
+                            made,
+                            rest: others,
+                        })?;
+                        made = Terms::new(alloc);
+                        rest = args.as_slice();
+                    }
+                }
+            } else {
+                let Some(frame) = above.pop() else {
+                    return Ok(made);
+                };
+                let Writing {
+                    f,
+                    made: before,
+                    rest: others,
+                } = frame;
+                let args = made;
+                made = before;
+                if made.push(Term::App { f, args }).is_err() {
+                    return Err(AllocError);
+                }
+                rest = others;
+            }
         }
-        Ok(made)
     }
 
     /// What a variable of a space stands for.

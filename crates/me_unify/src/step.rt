@@ -5,8 +5,8 @@
 /// The nodes of two atoms that are to be equal.
 #[derive(Clone, Copy)]
 pub(crate) struct Sides {
-    pub(crate) left: u32,
-    pub(crate) right: u32,
+    pub(crate) left: usize,
+    pub(crate) right: usize,
 }
 
 /// An equation that was added: the spaces and nodes of its atoms, and how many nodes and links stood
@@ -14,9 +14,9 @@ pub(crate) struct Sides {
 #[derive(Clone, Copy)]
 pub(crate) struct Step {
     pub(crate) left_space: u32,
-    pub(crate) left: u32,
+    pub(crate) left: usize,
     pub(crate) right_space: u32,
-    pub(crate) right: u32,
+    pub(crate) right: usize,
     pub(crate) nodes: usize,
     pub(crate) links: usize,
 }

@@ -13,7 +13,7 @@ use crate::node::Node;
 
 impl Arena {
     /// Whether the term of a node is a variable.
-    fn is_left(&self, x: u32) -> bool
+    fn is_left(&self, x: usize) -> bool
         requires arena { IsArena self.now.nodes self.now.links }
         requires solution { IsSolved self.now.nodes self.now.links }
         requires within { x < length self.now.nodes }

@@ -4,8 +4,8 @@
 //! node leads to has one.
 ghost use Rattle.std.specs.Prelude.{◌≡◌, ℕ, ◌∷◌, ◌++◌, [], ◌+◌, ◌*◌, ◌<◌, ◌≤◌, ◌^◌, OnOk, IfOk, IfSome, IsTrue, false, None, length, slice_index, set, eqb, count_by};
 ghost use Rattle.me_terms.specs.Substitutions.{Family};
-ghost use Rattle.me_unify.specs.Linked.{IsForest, Respects, Colouring, Fits, AreNodes};
-ghost use Rattle.me_unify.specs.Ordered.{LeadsTo};
+ghost use Rattle.me_unify.specs.Linked.{IsForest, Respects, Colouring, IsColoured, AreNodes};
+ghost use Rattle.me_unify.specs.Ordered.{LeadsBefore};
 ghost use Rattle.me_unify.specs.Walked.{IsWalk, IsAbove, AreReached, AreBefore};
 
 use crate::links::{FREE, Links};
@@ -17,22 +17,22 @@ use std::alloc::{AllocError, Global};
 /// arguments of a node are done, and `stack` has the open nodes, each below the one before it.
 #[derive(Drop)]
 pub(crate) struct Walk {
-    pub(crate) order: Vec<u64>,
-    pub(crate) list: Vec<u32>,
-    pub(crate) count: u64,
+    pub(crate) order: Vec<usize>,
+    pub(crate) list: Vec<usize>,
+    pub(crate) count: usize,
     pub(crate) reached: Vec<usize>,
-    pub(crate) stack: Vec<u32>,
+    pub(crate) stack: Vec<usize>,
 }
 
 /// The first argument from a place on that is not done, or the number of arguments where all are.
-fn first_waiting(order: &[u64], xs: &[u32], from: usize) -> usize
+fn first_waiting(order: &[usize], xs: &[usize], from: usize) -> usize
     requires within { (i : ℕ) → i < length xs.now → slice_index xs.now i < length order.now }
     requires done { (i : ℕ) → i < from → i < length xs.now → 2 ≤ slice_index order.now (slice_index xs.now i) }
     ensures done { (i : ℕ) → i < result → i < length xs.now → 2 ≤ slice_index order.now (slice_index xs.now i) }
     ensures waiting { result < length xs.now → slice_index order.now (slice_index xs.now result) < 2 }
 {
     for k in from..xs.len() {
-        if order[xs[k] as usize] < 2 {
+        if order[xs[k]] < 2 {
             return k;
         }
     }
@@ -41,7 +41,13 @@ fn first_waiting(order: &[u64], xs: &[u32], from: usize) -> usize
 
 impl Links {
     /// The first that a node leads to and that is not done.
-    fn waiting(&self, nodes: &[Node], order: &[u64], reached: &mut [usize], x: u32) -> Option<u32>
+    fn waiting(
+        &self,
+        nodes: &[Node],
+        order: &[usize],
+        reached: &mut [usize],
+        x: usize,
+    ) -> Option<usize>
         requires forest { IsForest self.now }
         requires nodes { length nodes.now ≡ length self.now.place.items }
         requires fit { AreNodes nodes.now }
@@ -50,25 +56,21 @@ impl Links {
         requires sized { length reached.old ≡ length nodes.now }
         requires reached { AreReached nodes.now order.now reached.old }
         ensures reached { AreReached nodes.now order.now reached.new }
-        ensures done { result ≡ None → (n : ℕ) → AreBefore order.now n → LeadsTo nodes.now self.now order.now n x }
+        ensures done { result ≡ None → (n : ℕ) → AreBefore order.now n → LeadsBefore nodes.now self.now order.now n x }
         ensures within { IfSome result (λ y. y < length nodes.now) }
         ensures waiting { IfSome result (λ y. slice_index order.now y < 2) }
         ensures above { IfSome result (λ y. IsAbove nodes.now self.now x y) }
     {
-        let k = self.place[x as usize];
+        let k = self.place[x];
         if k != FREE {
-            let to = self.tos[k as usize];
-            return if order[to as usize] < 2 {
-                Some(to)
-            } else {
-                None
-            };
+            let to = self.tos[k];
+            return if order[to] < 2 { Some(to) } else { None };
         }
-        match &nodes[x as usize] {
+        match &nodes[x] {
             Node::Var { space: _, var: _ } => None,
             Node::App { f: _, args } => {
-                let next = first_waiting(order, args, reached[x as usize]);
-                reached[x as usize] = next;
+                let next = first_waiting(order, args, reached[x]);
+                reached[x] = next;
                 if next < args.len() {
                     Some(args[next])
                 } else {
@@ -95,7 +97,7 @@ impl Walk {
     }
 
     /// Opens a node.
-    fn enter(&mut self, x: u32) -> Result<(), AllocError>
+    fn enter(&mut self, x: usize) -> Result<(), AllocError>
         requires within { x < length self.old.order.items }
         ensures order { OnOk result (self.new.order.items ≡ set self.old.order.items x 1) }
         ensures stack { OnOk result (self.new.stack.items ≡ self.old.stack.items ++ x ∷ []) }
@@ -104,7 +106,7 @@ impl Walk {
         ensures reached { self.new.reached.items ≡ self.old.reached.items }
     {
         self.stack.push(x)?;
-        self.order[x as usize] = 1;
+        self.order[x] = 1;
         Ok(())
     }
 
@@ -116,22 +118,21 @@ impl Walk {
         requires fit { AreNodes nodes.now }
         requires walk { IsWalk nodes.now links.now self.old }
         requires some { 0 < length self.old.stack.items }
-        requires short { length nodes.now < 2 ^ 32 }
         ensures walk { IfOk result (λ answer. IsTrue answer → IsWalk nodes.now links.now self.new) }
         ensures seen { IfOk result (λ answer. IsTrue answer → (y : ℕ) → y < length nodes.now → 1 ≤ slice_index self.old.order.items y → 1 ≤ slice_index self.new.order.items y) }
         ensures fewer { IfOk result (λ answer. IsTrue answer → 2 * count_by (λ m. eqb m 0) self.new.order.items + length self.new.stack.items < 2 * count_by (λ m. eqb m 0) self.old.order.items + length self.old.stack.items) }
-        ensures no { IfOk result (λ answer. answer ≡ false → (t : Family) (h : Colouring) → Fits nodes.now t h → ¬ Respects links.now h) }
+        ensures no { IfOk result (λ answer. answer ≡ false → (t : Family) (h : Colouring) → IsColoured nodes.now t h → ¬ Respects links.now h) }
     {
         let last = self.stack.len() - 1;
         let x = self.stack[last];
         let Some(y) = links.waiting(nodes, &self.order, &mut self.reached, x) else {
-            self.order[x as usize] = self.count;
-            self.list[(self.count - 2) as usize] = x;
+            self.order[x] = self.count;
+            self.list[self.count - 2] = x;
             self.count += 1;
             self.stack.truncate(last);
             return Ok(true);
         };
-        if self.order[y as usize] == 1 {
+        if self.order[y] == 1 {
             return Ok(false);
         }
         self.enter(y)?;
@@ -143,7 +144,7 @@ impl Walk {
         &mut self,
         links: &Links,
         nodes: &[Node],
-        x: u32,
+        x: usize,
     ) -> Result<bool, AllocError>
         requires forest { IsForest links.now }
         requires nodes { length nodes.now ≡ length links.now.place.items }
@@ -151,14 +152,13 @@ impl Walk {
         requires walk { IsWalk nodes.now links.now self.old }
         requires none { self.old.stack.items ≡ [] }
         requires within { x < length nodes.now }
-        requires short { length nodes.now < 2 ^ 32 }
         ensures walk { IfOk result (λ answer. IsTrue answer → IsWalk nodes.now links.now self.new) }
         ensures none { IfOk result (λ answer. IsTrue answer → self.new.stack.items ≡ []) }
         ensures seen { IfOk result (λ answer. IsTrue answer → (y : ℕ) → y < length nodes.now → 1 ≤ slice_index self.old.order.items y → 1 ≤ slice_index self.new.order.items y) }
         ensures done { IfOk result (λ answer. IsTrue answer → 1 ≤ slice_index self.new.order.items x) }
-        ensures no { IfOk result (λ answer. answer ≡ false → (t : Family) (h : Colouring) → Fits nodes.now t h → ¬ Respects links.now h) }
+        ensures no { IfOk result (λ answer. answer ≡ false → (t : Family) (h : Colouring) → IsColoured nodes.now t h → ¬ Respects links.now h) }
     {
-        if self.order[x as usize] > 0 {
+        if self.order[x] > 0 {
             return Ok(true);
         }
         self.enter(x)?;

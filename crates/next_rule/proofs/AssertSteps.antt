@@ -15,9 +15,9 @@ use Rattle.me_terms.specs.declared.entry.Kind.{Kind}
 use Rattle.me_terms.specs.declared.entry.Kind.TheVariants.{Universal, Parametric}
 use Rattle.me_terms.specs.declared.atom.Literal.{Literal}
 use Rattle.me_laws.proofs.Determined.{clause_same, assert_determined, precedes_antisymmetric}
-use Rattle.me_existence.proofs.Best.{precedes_itself}
+use Rattle.me_laws_existence.proofs.Best.{precedes_itself}
 use Rattle.joint_unifiers.proofs.CanonicalMeasures.{canonical_weight}
-use Rattle.context_unifier.specs.Enumeration.{IsLater, IsWithinLimits, HasUnifier, IsNextTuple, IsLastTuple}
+use Rattle.context_unifier.specs.Enumeration.{IsLater, IsWithinCursorLimits, HasUnifier, IsNextTuple, IsLastTuple}
 use Rattle.context_unifier.specs.Cursors.{CursorValue}
 use Rattle.assert_rule.specs.AssertOrder as order
 use Rattle.assert_rule.specs.AssertedEntries.{Asserts}
@@ -30,11 +30,11 @@ use Rattle.next_rule.proofs.Sizes.{none_within}
 use Rattle.next_rule.proofs.Tuples.{later_decided, not_later, passed_precedes, passed_not, passed_here}
 
 -- ---- the two forms of the order of ranks are the same
-before_best : (e : EntryValue) (best : Option EntryValue) → order.ComesBefore e best → Improves assert_rank best e
+before_best : (e : EntryValue) (best : Option EntryValue) → order.ComesBeforeBest e best → Improves assert_rank best e
 before_best e None h = tt
 before_best e (Some b) h = before_to (kind_rank e.kind) (pattern_weight e.atom) (kind_rank b.kind) (pattern_weight b.atom) h
 
-best_before : (e : EntryValue) (best : Option EntryValue) → Improves assert_rank best e → order.ComesBefore e best
+best_before : (e : EntryValue) (best : Option EntryValue) → Improves assert_rank best e → order.ComesBeforeBest e best
 best_before e None h = tt
 best_before e (Some b) h = before_from (kind_rank e.kind) (pattern_weight e.atom) (kind_rank b.kind) (pattern_weight b.atom) h
 
@@ -93,7 +93,7 @@ module _ (problem : ProblemValue) (bounds : Bounds) (context : Context) where
       stands_at S T (λ x y s t. before x.clause x.place x.tuple y.clause y.place y.tuple s t)
 
   -- ---- one tuple
-  pub assert_found : (c place : ℕ) (tuple : List ℕ) (best : Option EntryValue) (e : EntryValue) → IsAssert problem bounds context c place tuple e → order.ComesBefore e best → TakesAsserts problem bounds context (AssertTuple c place tuple) best (Some e)
+  pub assert_found : (c place : ℕ) (tuple : List ℕ) (best : Option EntryValue) (e : EntryValue) → IsAssert problem bounds context c place tuple e → order.ComesBeforeBest e best → TakesAsserts problem bounds context (AssertTuple c place tuple) best (Some e)
   assert_found c place tuple best e holds before =
       inr (
         e,
@@ -112,7 +112,7 @@ module _ (problem : ProblemValue) (bounds : Bounds) (context : Context) where
         before_best e best before,
       )
 
-  pub assert_not_found : (c place : ℕ) (tuple : List ℕ) (best : Option EntryValue) → ((e : EntryValue) → IsAssert problem bounds context c place tuple e → order.ComesBefore e best → ⊥) → TakesAsserts problem bounds context (AssertTuple c place tuple) best best
+  pub assert_not_found : (c place : ℕ) (tuple : List ℕ) (best : Option EntryValue) → ((e : EntryValue) → IsAssert problem bounds context c place tuple e → order.ComesBeforeBest e best → ⊥) → TakesAsserts problem bounds context (AssertTuple c place tuple) best best
   assert_not_found c place tuple best never =
       inl (
         refl,
@@ -122,15 +122,15 @@ module _ (problem : ProblemValue) (bounds : Bounds) (context : Context) where
       )
 
   -- ---- what the rule answers
-  pub assert_answered : (c place : ℕ) (clause : ClauseValue) (tuple : List ℕ) (limit best found : Option EntryValue) (better : EntryValue) → ClauseAt problem c clause → limit ≡ best → found ≡ Some better → IfSome found (Asserts bounds context clause c place tuple) → IfSome found (λ e. order.ComesBefore e limit) → TakesAsserts problem bounds context (AssertTuple c place tuple) best (Some better)
+  pub assert_answered : (c place : ℕ) (clause : ClauseValue) (tuple : List ℕ) (limit best found : Option EntryValue) (better : EntryValue) → ClauseAt problem c clause → limit ≡ best → found ≡ Some better → IfSome found (Asserts bounds context clause c place tuple) → IfSome found (λ e. order.ComesBeforeBest e limit) → TakesAsserts problem bounds context (AssertTuple c place tuple) best (Some better)
   assert_answered c place clause tuple limit best found better at_clause same is holds before =
       let P : Option EntryValue → Type 0 = λ z. IfSome z (Asserts bounds context clause c place tuple) in
-      let Q : Option EntryValue × Option EntryValue → Type 0 = λ z. IfSome z.0 (λ e. order.ComesBefore e z.1) in
+      let Q : Option EntryValue × Option EntryValue → Type 0 = λ z. IfSome z.0 (λ e. order.ComesBeforeBest e z.1) in
       assert_found c place tuple best better (subst P is holds problem at_clause) (subst Q (λ i. (is i, same i)) before)
 
-  pub assert_unanswered : (c place : ℕ) (clause : ClauseValue) (tuple : List ℕ) (limit best found : Option EntryValue) → ClauseAt problem c clause → limit ≡ best → found ≡ None → IfNone found ((p : ProblemValue) (e : EntryValue) → ClauseAt p c clause → IsAssert p bounds context c place tuple e → ¬ order.ComesBefore e limit) → TakesAsserts problem bounds context (AssertTuple c place tuple) best best
+  pub assert_unanswered : (c place : ℕ) (clause : ClauseValue) (tuple : List ℕ) (limit best found : Option EntryValue) → ClauseAt problem c clause → limit ≡ best → found ≡ None → IfNone found ((p : ProblemValue) (e : EntryValue) → ClauseAt p c clause → IsAssert p bounds context c place tuple e → ¬ order.ComesBeforeBest e limit) → TakesAsserts problem bounds context (AssertTuple c place tuple) best best
   assert_unanswered c place clause tuple limit best found at_clause same is never =
-      let P : Option EntryValue × Option EntryValue → Type 0 = λ z. IfNone z.0 ((p : ProblemValue) (e : EntryValue) → ClauseAt p c clause → IsAssert p bounds context c place tuple e → ¬ order.ComesBefore e z.1) in
+      let P : Option EntryValue × Option EntryValue → Type 0 = λ z. IfNone z.0 ((p : ProblemValue) (e : EntryValue) → ClauseAt p c clause → IsAssert p bounds context c place tuple e → ¬ order.ComesBeforeBest e z.1) in
       let none = subst P (λ i. (is i, same i)) never in
       assert_not_found c place tuple best (λ e holds before. none problem e at_clause holds before)
 
@@ -143,7 +143,7 @@ module _ (problem : ProblemValue) (bounds : Bounds) (context : Context) where
       let P : EntryValue → Type 0 = λ z. pattern_weight z.atom ≤ bounds.weight in
       subst P (sym h.entry) h.allowed.fits.1
 
-  light_family : (best : Option EntryValue) (c place : ℕ) (tuple : List ℕ) (e : EntryValue) (h : IsAssert problem bounds context c place tuple e) → Improves assert_rank best e → IsWithinLimits (assert_limits bounds best) context h.clause.literals (Some place) tuple h.family
+  light_family : (best : Option EntryValue) (c place : ℕ) (tuple : List ℕ) (e : EntryValue) (h : IsAssert problem bounds context c place tuple e) → Improves assert_rank best e → IsWithinCursorLimits (assert_limits bounds best) context h.clause.literals (Some place) tuple h.family
   light_family best c place tuple e h improves = record {
     remains = none_within h.no_remainder;
     weighs = λ l at.

@@ -8,7 +8,7 @@ use Rattle.me_terms.specs.Positions.{ClauseAt}
 use Rattle.me_terms.specs.Close.{IsClose, HasClose}
 use Rattle.me_terms.specs.Order.{Precedes, IsLeastClose}
 use Rattle.me_laws.proofs.Determined.{clause_same}
-use Rattle.me_existence.proofs.Best.{compared}
+use Rattle.me_laws_existence.proofs.Best.{compared}
 use Rattle.context_unifier.specs.Enumeration.{remainder_limit, HasUnifier, IsNextTuple, IsLastTuple}
 use Rattle.next_rule.proofs.Sizes.{none_within, within_none}
 

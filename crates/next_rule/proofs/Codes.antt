@@ -7,8 +7,8 @@ use Rattle.me_terms.specs.Context.{Context}
 use Rattle.me_terms.specs.Positions.{positions_of, AreOpposite}
 use Rattle.me_terms.specs.Order.{Precedes}
 use Rattle.me_terms.specs.declared.atom.Literal.{Literal}
-use Rattle.me_existence.proofs.Codes.{Within}
-use Rattle.me_existence.proofs.Opposed.{tuple_within}
+use Rattle.me_laws_existence.proofs.Codes.{Within}
+use Rattle.me_laws_existence.proofs.Opposed.{tuple_within}
 use Rattle.context_unifier.specs.declared.limits.Limits.{Limits}
 use Rattle.context_unifier.specs.Enumeration.{IsNextTuple}
 

@@ -19,8 +19,8 @@ use Rattle.me_terms.specs.declared.bounds.Bounds.{Bounds}
 use Rattle.me_terms.specs.declared.atom.Literal.{Literal}
 use Rattle.me_unify.specs.Equations.{IsMostGeneral}
 use Rattle.me_laws.proofs.Determined.{clause_same}
-use Rattle.me_existence.proofs.Best.{precedes_itself}
-use Rattle.me_existence.proofs.Opposed.{there}
+use Rattle.me_laws_existence.proofs.Best.{precedes_itself}
+use Rattle.me_laws_existence.proofs.Opposed.{there}
 use Rattle.joint_unifiers.specs.ClauseUnifiers.{UnifierValue, IsUnifierOf}
 use Rattle.split_rule.specs.SplitChoices.{IsChosen, IsRuleChoice, FollowsRule, ArePlaces}
 use Rattle.split_rule.specs.declared.choice.SplitChoice.{SplitChoice}

@@ -5,7 +5,7 @@ use Rattle.me_terms.specs.Context.{Context}
 use Rattle.me_terms.specs.declared.atom.Literal.{Literal}
 use Rattle.me_laws.proofs.Determined.{precedes_antisymmetric}
 use Rattle.me_laws.proofs.Decisions.{both_decided, not_decided}
-use Rattle.me_existence.proofs.Best.{precedes_itself, precedes_transitive, precedes_total}
+use Rattle.me_laws_existence.proofs.Best.{precedes_itself, precedes_transitive, precedes_total}
 use Rattle.context_unifier.specs.declared.limits.Limits.{Limits}
 use Rattle.context_unifier.specs.Enumeration.{IsLater, HasUnifier, IsNextTuple}
 use Rattle.next_rule.proofs.Keys.{same_key}

@@ -1,18 +1,18 @@
 -- Looks at one part of the candidates after another.
 use Rattle.std.proofs.Common.{◌≡◌, ℕ, ◌⊎◌, inl, inr, List, Option, Some, None, refl, subst}
 use Rattle.me_terms.specs.Order.{Precedes}
-use Rattle.me_existence.proofs.Best.{precedes_transitive}
-use Rattle.next_rule.specs.Best.{ComesBefore, Improves, IsLeast, Updates}
+use Rattle.me_laws_existence.proofs.Best.{precedes_transitive}
+use Rattle.next_rule.specs.Best.{StrictlyPrecedes, Improves, IsLeast, Updates}
 use Rattle.next_rule.proofs.Keys.{before_transitive, not_before}
 
 module _ {C E : Type 0} (given : C → E) (rank : E → List ℕ) (key : C → List ℕ) where
   -- A lower rank is a lower key.
   abbrev pub RankDecides : Type 0
-  RankDecides = (x y : C) → ComesBefore (rank (given x)) (rank (given y)) → Precedes (key x) (key y)
+  RankDecides = (x y : C) → StrictlyPrecedes (rank (given x)) (rank (given y)) → Precedes (key x) (key y)
 
   -- Where ranks do not decide, those of P come before those of Q.
   abbrev pub StandsBefore : (C → Type 0) → (C → Type 0) → Type 0
-  StandsBefore P Q = (x y : C) → P x → Q y → ¬ ComesBefore (rank (given y)) (rank (given x)) → Precedes (key x) (key y)
+  StandsBefore P Q = (x y : C) → P x → Q y → ¬ StrictlyPrecedes (rank (given y)) (rank (given x)) → Precedes (key x) (key y)
 
   -- the candidates of R are those of P and those of Q
   pub record AreBoth (P Q R : C → Type 0) : Type 0 where
@@ -31,11 +31,11 @@ module _ {C E : Type 0} (given : C → E) (rank : E → List ℕ) (key : C → L
   updates_none P a never = inl (refl, λ x p improves. never x p)
 
   -- what improves on the best one so far comes before what does not
-  improves_before : (a : Option E) (e f : E) → Improves rank a e → ¬ Improves rank a f → ComesBefore (rank e) (rank f)
+  improves_before : (a : Option E) (e f : E) → Improves rank a e → ¬ Improves rank a f → StrictlyPrecedes (rank e) (rank f)
   improves_before None e f h never = absurd (never tt)
   improves_before (Some b) e f h never = before_transitive (rank e) (rank b) (rank f) h (not_before (rank b) (rank f) never)
 
-  improves_more : (a : Option E) (e f : E) → Improves rank a e → ComesBefore (rank f) (rank e) → Improves rank a f
+  improves_more : (a : Option E) (e f : E) → Improves rank a e → StrictlyPrecedes (rank f) (rank e) → Improves rank a f
   improves_more None e f h before = tt
   improves_more (Some b) e f h before = before_transitive (rank f) (rank e) (rank b) before h.0
 
@@ -57,7 +57,7 @@ module _ {C E : Type 0} (given : C → E) (rank : E → List ℕ) (key : C → L
 
     takes_stays : (e : E) → IsLeast given key P e → ((x : C) → Q x → ¬ Improves rank (Some e) (given x)) → IsLeast given key R e
     takes_stays e m g =
-        let S : E → C → Type 0 = λ z x. ¬ ComesBefore (rank (given x)) (rank z) in
+        let S : E → C → Type 0 = λ z x. ¬ StrictlyPrecedes (rank (given x)) (rank z) in
         record {
           at = m.at;
           among = both.left m.at m.among;
@@ -65,10 +65,10 @@ module _ {C E : Type 0} (given : C → E) (rank : E → List ℕ) (key : C → L
           least = λ x r. elim (both.split x r) as (λ _. Precedes (key m.at) (key x)) [ inl p ↦ m.least x p | inr q ↦ before m.at x m.among q (subst (λ (z : E). S z x) m.gives (g x q)) ];
         }
 
-    takes_takes : (e f : E) → IsLeast given key P e → IsLeast given key Q f → ComesBefore (rank f) (rank e) → IsLeast given key R f
+    takes_takes : (e f : E) → IsLeast given key P e → IsLeast given key Q f → StrictlyPrecedes (rank f) (rank e) → IsLeast given key R f
     takes_takes e f m n comes =
-        let S : E → Type 0 = λ z. ComesBefore (rank f) (rank z) in
-        let T : E → Type 0 = λ z. ComesBefore (rank z) (rank (given m.at)) in
+        let S : E → Type 0 = λ z. StrictlyPrecedes (rank f) (rank z) in
+        let T : E → Type 0 = λ z. StrictlyPrecedes (rank z) (rank (given m.at)) in
         let less : Precedes (key n.at) (key m.at) = decides n.at m.at (subst T n.gives (subst S m.gives comes)) in
         record {
           at = n.at;

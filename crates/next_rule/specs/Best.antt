@@ -3,13 +3,13 @@ use Rattle.std.specs.Prelude.{◌≡◌, ℕ, List, Option, Some, None, ◌⊎�
 use Rattle.me_terms.specs.Order.{Precedes}
 
 -- The rank comes before the other one, and is not it.
-abbrev pub ComesBefore : List ℕ → List ℕ → Type 0
-ComesBefore rank other = Precedes rank other × ¬ (rank ≡ other)
+abbrev pub StrictlyPrecedes : List ℕ → List ℕ → Type 0
+StrictlyPrecedes rank other = Precedes rank other × ¬ (rank ≡ other)
 
 -- What is given comes before the best one so far, if there is one.
 abbrev pub Improves : {E : Type 0} → (E → List ℕ) → Option E → E → Type 0
 Improves rank None e = ⊤
-Improves rank (Some best) e = ComesBefore (rank e) (rank best)
+Improves rank (Some best) e = StrictlyPrecedes (rank e) (rank best)
 
 -- A candidate among those of which P holds gives e, and none of those has a key that comes before its own.
 pub record IsLeast {C E : Type 0} (given : C → E) (key : C → List ℕ) (P : C → Type 0) (e : E) : Type 0 where

@@ -28,15 +28,15 @@ module _ (context : Context) (k : ℕ) (e : EntryValue) (a : AtomValue) (lt : k 
   stands : StandsAt context k e
   stands = slice_get_read context (length context) k e refl lt read
 
-  covered_is_not_shown : HasCover e.positive a (after k context) → IsShown context k → ⊥
+  covered_is_not_shown : HasCover e (after k context) → IsShown context k → ⊥
   covered_is_not_shown cover (f, b, visible, of_b) =
       let same = same_entry context k f e visible.0 stands in
-      visible.1 (subst (IsHidden context k) (sym same) (hidden_there context k e a is cover))
+      visible.1 (subst (IsHidden context k) (sym same) (hidden_there context k e cover))
 
-  uncovered_is_shown : (HasCover e.positive a (after k context) → ⊥) → IsShown context k
-  uncovered_is_shown uncovered = (e, a, (stands, λ h. uncovered (cover_there context k e a is h)), is)
+  uncovered_is_shown : (HasCover e (after k context) → ⊥) → IsShown context k
+  uncovered_is_shown uncovered = (e, a, (stands, λ h. uncovered (cover_there context k e h)), is)
 
-  pub shown_by : (b : Bool) → (IsTrue b ↔ HasCover e.positive a (after k context)) → IsTrue (not b) ↔ IsShown context k
+  pub shown_by : (b : Bool) → (IsTrue b ↔ HasCover e (after k context)) → IsTrue (not b) ↔ IsShown context k
   shown_by true h = ((λ n. absurd (false≢true n)), λ s. absurd (covered_is_not_shown (h.0 refl) s))
   shown_by false h = ((λ n. uncovered_is_shown (λ c. false≢true (h.1 c))), λ s. refl)
 

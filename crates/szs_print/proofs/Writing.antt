@@ -9,7 +9,7 @@ use Rattle.std.specs.Io.KnownBytes.{Appends}
 use Rattle.me_io.specs.Sink.{AppendedFront, written_before}
 use Rattle.me_io.specs.declared.sink.WriteError.{WriteError}
 use Rattle.szs_print.specs.Pieces.{AppendedFrontAfter}
-use Rattle.szs_print.specs.RefusalText.{word_text, cause_text, place_of, place_text, refusal_text}
+use Rattle.szs_print.specs.RefusalText.{word_text, cause_text, refusal_place, place_text, refusal_text}
 use Rattle.szs_print.specs.StatusText.{status_line, reason_line}
 use Rattle.szs_print.specs.declared.refusal.Refusal.{Refusal}
 
@@ -50,13 +50,13 @@ pub lines_are : (word name cause at digits : List ℕ) → codes "% SZS status "
 lines_are word name cause at digits =
     regroup (codes "% SZS status ") word (codes " for ") name (codes "\n") (codes "% reason ") cause at digits
 
-pub text_with_place : (name word cause digits : List ℕ) (r : Refusal) (at : ℕ) → word ≡ word_text r → cause ≡ cause_text r → digits ≡ decimal at → Some at ≡ place_of r → status_line word name ++ reason_line (cause ++ (codes " at " ++ digits)) ≡ refusal_text name r
+pub text_with_place : (name word cause digits : List ℕ) (r : Refusal) (at : ℕ) → word ≡ word_text r → cause ≡ cause_text r → digits ≡ decimal at → Some at ≡ refusal_place r → status_line word name ++ reason_line (cause ++ (codes " at " ++ digits)) ≡ refusal_text name r
 text_with_place name word cause digits r at w c d p =
     ap (λ (x : List ℕ). status_line x name ++ reason_line (cause ++ (codes " at " ++ digits))) w
     ∙ ap (λ (y : List ℕ). status_line (word_text r) name ++ reason_line (y ++ (codes " at " ++ digits))) c
     ∙ ap (λ (z : List ℕ). status_line (word_text r) name ++ reason_line (cause_text r ++ z)) (ap (λ (x : List ℕ). codes " at " ++ x) d ∙ ap place_text p)
 
-pub text_without_place : (name word cause : List ℕ) (r : Refusal) → word ≡ word_text r → cause ≡ cause_text r → None ≡ place_of r → status_line word name ++ reason_line (cause ++ []) ≡ refusal_text name r
+pub text_without_place : (name word cause : List ℕ) (r : Refusal) → word ≡ word_text r → cause ≡ cause_text r → None ≡ refusal_place r → status_line word name ++ reason_line (cause ++ []) ≡ refusal_text name r
 text_without_place name word cause r w c p =
     ap (λ (x : List ℕ). status_line x name ++ reason_line (cause ++ [])) w
     ∙ ap (λ (y : List ℕ). status_line (word_text r) name ++ reason_line (y ++ [])) c

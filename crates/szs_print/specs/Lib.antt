@@ -1,5 +1,4 @@
 pub mod AnswerText
-pub mod Hiding
 pub mod ModelText
 pub mod Pieces
 pub mod Printable

@@ -1,5 +1,6 @@
 -- The text of a refusal.
 use Rattle.std.specs.Prelude.{ℕ, List, [], ◌++◌, codes, decimal, Option, Some, None}
+use Rattle.me_io.specs.declared.source.TheConstants.{MAX_BYTES}
 use Rattle.tptp_grammar.specs.declared.refusal.What.{What}
 use Rattle.tptp_grammar.specs.declared.refusal.What.TheVariants.{Equality, Language, Include, Number, Defined, Conjecture, Role}
 use Rattle.tptp_grammar.specs.declared.refusal.Which.{Which}
@@ -45,14 +46,14 @@ cause_text Read = codes "read"
 cause_text Memory = codes "memory"
 
 -- The place that a refusal names.
-abbrev pub place_of : Refusal → Option ℕ
-place_of Usage = None
-place_of (Syntax at) = Some at
-place_of (Inappropriate what at) = Some at
-place_of (Limit which at) = Some at
-place_of Length = Some 67_108_864
-place_of Read = None
-place_of Memory = None
+abbrev pub refusal_place : Refusal → Option ℕ
+refusal_place Usage = None
+refusal_place (Syntax at) = Some at
+refusal_place (Inappropriate what at) = Some at
+refusal_place (Limit which at) = Some at
+refusal_place Length = Some MAX_BYTES
+refusal_place Read = None
+refusal_place Memory = None
 
 abbrev pub place_text : Option ℕ → List ℕ
 place_text None = []
@@ -61,4 +62,4 @@ place_text (Some at) = codes " at " ++ decimal at
 -- Two lines: the status, and the reason with the place where there is one.
 abbrev pub refusal_text : List ℕ → Refusal → List ℕ
 refusal_text name refusal =
-    status_line (word_text refusal) name ++ reason_line (cause_text refusal ++ place_text (place_of refusal))
+    status_line (word_text refusal) name ++ reason_line (cause_text refusal ++ place_text (refusal_place refusal))

@@ -12,6 +12,9 @@ use crate::status::{push_reason, push_status};
 use me_terms::{Answer, Bound, Problem, Text};
 use std::alloc::{AllocError, Global};
 
+/// The most bytes of a problem's name.
+pub const MAX_NAME_BYTES: usize = 200;
+
 /// Puts the text for a search that gave up at the bound at the end.
 pub(crate) fn push_gave_up(out: &mut Vec<u8>, name: &[u8], bound: Bound) -> Result<(), AllocError>
     ensures { OnOk result (out.new.items ≡ out.old.items ++ gave_up_text name.now bound) }
@@ -34,8 +37,8 @@ fn print_gave_up(alloc: Global, name: &[u8], bound: Bound) -> Result<Vec<u8>, Al
     Ok(out)
 }
 
-/// The text of the answer to the problem, under the problem's name. The name has 1 to 200 bytes from 33
-/// to 126, and the answer speaks of the problem's clauses and symbols.
+/// The text of the answer to the problem, under the problem's name. The name has 1 to `MAX_NAME_BYTES`
+/// bytes from 33 to 126, and the answer speaks of the problem's clauses and symbols.
 pub fn print_answer(
     alloc: Global,
     name: &Text,

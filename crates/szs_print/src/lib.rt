@@ -11,9 +11,6 @@ mod refutation;
 mod status;
 mod summary;
 
-pub use answer::print_answer;
+pub use answer::{MAX_NAME_BYTES, print_answer};
 pub use refusal::{Refusal, write_refusal};
 pub use summary::print_summary;
-
-#[cfg(test)]
-mod tests;

@@ -4,30 +4,21 @@
 //! entry is hidden is found by a look at all later ones, in a time that grows with the square of the
 //! number of entries.
 ghost use Rattle.std.specs.Prelude.{◌≡◌, ◌<◌, ◌+◌, ◌++◌, ◌↔◌, IsTrue, ℕ, List, Some, slice_get, length, OnOk, IfOk, Contains};
+ghost use Rattle.me_terms.specs.Context.{Covers};
 ghost use Rattle.me_terms.specs.Values.{EntryValue};
-ghost use Rattle.szs_print.specs.Hiding.{Covers};
 ghost use Rattle.szs_print.specs.ModelText.{kind_text, literal_line, default_line, IsTextAt, IsTextOf, IsModelText};
 
 use crate::status::{push_output, push_status};
 use cnf_text::{push_number, push_signed};
-use me_terms::{Atom, Entry, Kind, Pattern, Signature, matches};
+use me_terms::{Atom, Entry, Kind, Pattern, Signature, covers};
 use std::alloc::{AllocError, Global};
 
-/// Whether the entry hides each earlier literal of this sign and atom.
-fn covers(entry: &Entry, positive: bool, atom: &Atom) -> bool
-    ensures { IsTrue result ↔ Covers positive atom.now entry.now }
+/// Whether one of the later entries hides the entry.
+pub(crate) fn is_covered(later: &[Entry], entry: &Entry) -> bool
+    ensures { IsTrue result ↔ ((j : ℕ) × (universal : EntryValue) × (slice_get later.now j ≡ Some universal) × Covers universal entry.now) }
 {
-    matches!(entry.kind, Kind::Universal)
-        && entry.positive == positive
-        && matches(&entry.atom, atom)
-}
-
-/// Whether one of the later entries hides a literal of this sign and atom.
-pub(crate) fn is_covered(later: &[Entry], positive: bool, atom: &Atom) -> bool
-    ensures { IsTrue result ↔ ((j : ℕ) × (entry : EntryValue) × (slice_get later.now j ≡ Some entry) × Covers positive atom.now entry) }
-{
-    for entry in later {
-        if covers(entry, positive, atom) {
+    for universal in later {
+        if covers(universal, entry) {
             return true;
         }
     }
@@ -69,7 +60,7 @@ fn push_entry(
     let Pattern::Of(atom) = &entry.atom else {
         return Ok(());
     };
-    if is_covered(&entries[k + 1..], entry.positive, atom) {
+    if is_covered(&entries[k + 1..], entry) {
         return Ok(());
     }
     push_literal(out, signature, k, entry, atom)

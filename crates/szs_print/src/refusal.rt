@@ -9,10 +9,10 @@ ghost use Rattle.me_io.specs.Source.{Rose};
 ghost use Rattle.me_io.specs.Sink.{AppendedFront, written_before};
 ghost use Rattle.szs_print.specs.Pieces.{AppendedFrontAfter};
 ghost use Rattle.szs_print.specs.StatusText.{status_line, reason_line};
-ghost use Rattle.szs_print.specs.RefusalText.{word_text, what_text, which_text, cause_text, place_of, refusal_text};
+ghost use Rattle.szs_print.specs.RefusalText.{word_text, what_text, which_text, cause_text, refusal_place, refusal_text};
 
 use itoa::Buffer;
-use me_io::{Sink, WriteError, write_all};
+use me_io::{MAX_BYTES, Sink, WriteError, write_all};
 use tptp_grammar::{What, Which};
 
 /// Why a problem was not answered. Each place is an offset in the file, from 0.
@@ -26,7 +26,7 @@ pub enum Refusal {
     Inappropriate { what: What, at: u64 },
     /// The file passes a limit.
     Limit { which: Which, at: u64 },
-    /// The file has more than 67,108,864 bytes.
+    /// The file has more than `MAX_BYTES` bytes.
     Length,
     /// The file can't be read to its end.
     Read,
@@ -100,13 +100,13 @@ impl Refusal {
 
     /// The place that is named.
     fn place(&self) -> Option<u64>
-        ensures { result ≡ place_of self.now }
+        ensures { result ≡ refusal_place self.now }
     {
         match self {
             Refusal::Syntax { at }
             | Refusal::Inappropriate { at, .. }
             | Refusal::Limit { at, .. } => Some(*at),
-            Refusal::Length => Some(67_108_864),
+            Refusal::Length => Some(MAX_BYTES as u64),
             Refusal::Usage | Refusal::Read | Refusal::Memory => None,
         }
     }

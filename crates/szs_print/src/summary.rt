@@ -19,10 +19,10 @@ fn is_shown(entries: &[Entry], k: usize) -> bool
     ensures { IsTrue result ↔ IsShown entries.now k }
 {
     let entry = &entries[k];
-    let Pattern::Of(atom) = &entry.atom else {
+    let Pattern::Of(_) = &entry.atom else {
         return false;
     };
-    !is_covered(&entries[k + 1..], entry.positive, atom)
+    !is_covered(&entries[k + 1..], entry)
 }
 
 /// The number of lines that the text of the model has for its literals.
@@ -49,8 +49,8 @@ fn push_sizes(out: &mut Vec<u8>, clauses: u64, size: u64) -> Result<(), AllocErr
     out.extend_from_slice(b"\n")
 }
 
-/// The summary of the answer to the problem, under the problem's name. The name has 1 to 200 bytes from
-/// 33 to 126, and the answer speaks of the problem's clauses and symbols.
+/// The summary of the answer to the problem, under the problem's name. The name has 1 to
+/// `MAX_NAME_BYTES` bytes from 33 to 126, and the answer speaks of the problem's clauses and symbols.
 pub fn print_summary(
     alloc: Global,
     name: &Text,

@@ -2,7 +2,7 @@
 use Rattle.std.proofs.Common.{◌≡◌, ℕ, zero, suc, ◌<◌, ◌≤◌, List, [], ◌∷◌, ◌++◌, length, map, reverse, slice_set, slice_index_or, refl, ap, ◌∙◌, arith}
 use Rattle.std.proofs.lemmas.List.{reverse-append}
 use Rattle.tptp_grammar.specs.Views.{terminal_of}
-use Rattle.tptp_cnf.specs.Rows.{ItemValue, item, Draft, with_row, with_arity, closed_at, closed}
+use Rattle.tptp_cnf.specs.Rows.{ItemValue, item, Draft, with_row, with_arity, closed_at, items_closed}
 use Rattle.tptp_cnf.specs.Views.{item_value}
 use Rattle.tptp_cnf.specs.declared.item.Item.{Item}
 
@@ -23,5 +23,5 @@ values_len (i ∷ is) = omega (arith, values_len is)
 pub row_past : (items : List Item) (k n : ℕ) → length items ≤ k → with_arity k n (map item_value items) ≡ map item_value items
 row_past items k n le = past (map item_value items) k n (omega (arith, le, values_len items))
 
-pub closed_last : (places rest : List ℕ) (place n : ℕ) (d : Draft) → places ≡ rest ++ place ∷ [] → d.open_items ≡ reverse places → closed n d ≡ with_row (with_arity place n d.items) (reverse rest) d
+pub closed_last : (places rest : List ℕ) (place n : ℕ) (d : Draft) → places ≡ rest ++ place ∷ [] → d.open_items ≡ reverse places → items_closed n d ≡ with_row (with_arity place n d.items) (reverse rest) d
 closed_last places rest place n d e o = ap (λ (x : List ℕ). closed_at x n d) (o ∙ ap reverse e ∙ reverse-append rest (place ∷ []))

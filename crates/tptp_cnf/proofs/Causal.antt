@@ -4,7 +4,7 @@ use Rattle.std.proofs.lemmas.List.{map-append}
 use Rattle.me_terms.specs.Values.{ProblemValue}
 use Rattle.tptp_tokens.specs.Gaps.{IsGap}
 use Rattle.tptp_tokens.specs.Remainders.{Remainder}
-use Rattle.tptp_tokens.specs.Tokens.{PlacedToken, IsNext, IsCutFrom, IsCut}
+use Rattle.tptp_tokens.specs.Tokens.{PlacedToken, IsNextToken, IsCutFrom, IsCut}
 use Rattle.tptp_tokens.proofs.OneCut.{one_gap, first_takes, one_next, one_cut_from}
 use Rattle.tptp_grammar.specs.Terminals.{Terminal, terminal, terminals}
 use Rattle.tptp_grammar.specs.Files as grammar
@@ -13,7 +13,7 @@ use Rattle.tptp_grammar.specs.declared.refusal.Refusal.{Refusal}
 use Rattle.tptp_grammar.specs.declared.refusal.Refusal.TheVariants as refusal
 use Rattle.tptp_grammar.proofs.Unique as unique
 use Rattle.tptp_cnf.specs.Files.{IsFile}
-use Rattle.tptp_cnf.specs.Causes.{BeginsWith, IsRefusedToken, EndsEarly, RefusedAt}
+use Rattle.tptp_cnf.specs.Causes.{AreFirstTokens, IsRefusedToken, EndsEarly, RefusedAt}
 use Rattle.tptp_cnf.proofs.Reached.{all_of, front_more, read_is}
 
 -- ---- one problem
@@ -21,16 +21,16 @@ use Rattle.tptp_cnf.proofs.Reached.{all_of, front_more, read_is}
 pub one_problem : (bytes : List ℕ) (p q : ProblemValue) → IsFile bytes p → IsFile bytes q → p ≡ q
 one_problem bytes p q h k =
     let same : h.tokens ≡ k.tokens = one_cut_from (all_of bytes) h.tokens k.tokens h.cut k.cut in
-    let other : grammar.IsFile (terminals h.tokens) k.file = subst (λ (x : List PlacedToken). grammar.IsFile (terminals x) k.file) (sym same) k.written in
+    let other : grammar.IsFileWithinLimits (terminals h.tokens) k.file = subst (λ (x : List PlacedToken). grammar.IsFileWithinLimits (terminals x) k.file) (sym same) k.written in
     h.means ∙ sym (read_is (terminals h.tokens) h.file h.written) ∙ read_is (terminals h.tokens) k.file other ∙ sym k.means
 
 -- ---- fronts of one list of tokens
 
-none_left : (now : Remainder) (p : PlacedToken) (l : Remainder) → IsGap now.bytes [] → IsNext now p l → ⊥
+none_left : (now : Remainder) (p : PlacedToken) (l : Remainder) → IsGap now.bytes [] → IsNextToken now p l → ⊥
 none_left now p l g h = let e = one_gap now.bytes [] h.middle g h.gap in let lt = first_takes p.token h.middle l.bytes h.first in absurd (omega (arith, ap length e))
 
 -- the cut begins with a front
-cut_front : (now : Remainder) (all tokens : List PlacedToken) (left : Remainder) → IsCutFrom now all → BeginsWith now tokens left → (more : List PlacedToken) × (all ≡ tokens ++ more)
+cut_front : (now : Remainder) (all tokens : List PlacedToken) (left : Remainder) → IsCutFrom now all → AreFirstTokens tokens now left → (more : List PlacedToken) × (all ≡ tokens ++ more)
 cut_front now all [] left c b = (all, refl)
 cut_front now [] (t ∷ tokens) left c b = absurd (none_left now t b.0 c b.1)
 cut_front now (a ∷ all) (t ∷ tokens) left c b =
@@ -42,12 +42,12 @@ cut_front now (a ∷ all) (t ∷ tokens) left c b =
 abbrev Meet : List PlacedToken → List PlacedToken → Type 0
 Meet xs ys = ((more : List PlacedToken) × (ys ≡ xs ++ more)) ⊎ ((more : List PlacedToken) × (xs ≡ ys ++ more))
 
-meet : (now : Remainder) (xs ys : List PlacedToken) (l m : Remainder) → BeginsWith now xs l → BeginsWith now ys m → Meet xs ys
+meet : (now : Remainder) (xs ys : List PlacedToken) (l m : Remainder) → AreFirstTokens xs now l → AreFirstTokens ys now m → Meet xs ys
 meet now [] ys l m b c = inl (ys, refl)
 meet now (x ∷ xs) [] l m b c = inr (x ∷ xs, refl)
 meet now (x ∷ xs) (y ∷ ys) l m b c =
     let n = one_next now x y b.0 c.0 b.1 c.1 in
-    on n.token (meet c.0 xs ys l m (subst (λ (z : Remainder). BeginsWith z xs l) n.left b.2) c.2)
+    on n.token (meet c.0 xs ys l m (subst (λ (z : Remainder). AreFirstTokens xs z l) n.left b.2) c.2)
   where
     on : x ≡ y → Meet xs ys → Meet (x ∷ xs) (y ∷ ys)
     on e (inl h) = inl (h.0, ap (λ (z : PlacedToken). z ∷ ys) (sym e) ∙ ap (λ (z : List PlacedToken). x ∷ z) h.1)
@@ -121,7 +121,7 @@ one_cause bytes why other at place h k = one_of bytes why other at place (either
 no_file : (bytes : List ℕ) (why : Refusal) (at : ℕ) (problem : ProblemValue) → Either why at bytes → IsFile bytes problem → ⊥
 no_file bytes why at problem (inl h) f =
     let a = around why at bytes h f.tokens f.cut in
-    unique.refused_is_no_file (terminals h.before) (terminals a.0) (terminal h.token.token) why f.file h.refused (subst (λ (x : List Terminal). grammar.IsFile x f.file) a.1 f.written)
+    unique.refused_is_no_file (terminals h.before) (terminals a.0) (terminal h.token.token) why f.file h.refused (subst (λ (x : List Terminal). grammar.IsFileWithinLimits x f.file) a.1 f.written)
 no_file bytes why at problem (inr h) f =
     let same : f.tokens ≡ h.1.tokens = one_cut_from (all_of bytes) f.tokens h.1.tokens f.cut h.1.cut in
     h.1.short.1 f.file (ap terminals (sym same) ∙ f.written.written)

@@ -7,8 +7,8 @@ use Rattle.me_terms.specs.Values.{SymbolValue, SignatureValue, ClauseValue, Prob
 use Rattle.me_terms.specs.declared.atom.Literal.{Literal}
 use Rattle.tptp_grammar.specs.Written.{WrittenFormula}
 use Rattle.tptp_grammar.specs.Limits.{with_variables}
-use Rattle.tptp_cnf.specs.Meaning.{label_of, literals_of, is_left_out, literals_predicates, literals_functions, file_predicates, file_functions, with_symbols, clause_literals, variables_of, clause_of, clauses_of, is_constant, c0_symbol, with_constant, problem_of}
-use Rattle.tptp_cnf.specs.Rows.{ItemValue, Names, names_of, signature_of, names_after, numbered, built, Built, Draft, empty_draft, ended, finished}
+use Rattle.tptp_cnf.specs.Meaning.{label_of, literals_of, is_left_out, literals_predicates, literals_functions, file_predicates, file_functions, with_symbols, clause_literals, variables_in_formula, clause_of, clauses_of, is_constant, c0_symbol, with_constant, problem_of}
+use Rattle.tptp_cnf.specs.Rows.{ItemValue, Names, names_of, names_signature, names_after, numbered, built, Built, Draft, empty_draft, ended, finished}
 use Rattle.tptp_cnf.specs.declared.item.Node.{Node}
 use Rattle.tptp_cnf.proofs.Fed.{flat_literals, after_formula, after_file}
 use Rattle.tptp_cnf.proofs.Numbering.{Longer, longer_same, longer_on, symbol_longer, Within, numbered_is, symbols-append, after_functions, after_predicates, after_variables}
@@ -42,16 +42,16 @@ with_kept s f = record { functions = with_symbols s.functions (literals_function
 abbrev row : WrittenFormula → List ItemValue
 row f = flat_literals (literals_of f)
 
-kept_signature : (f : WrittenFormula) (s : SignatureValue) → signature_of (names_after (names_of s) (row f)) ≡ with_kept s f
+kept_signature : (f : WrittenFormula) (s : SignatureValue) → names_signature (names_after (names_of s) (row f)) ≡ with_kept s f
 kept_signature f s =
     let n : Names = names_after (names_of s) (row f) in
-    ap (λ (x : List SymbolValue). signature_of (record { functions = x; predicates = n.predicates; variables = n.variables }))
+    ap (λ (x : List SymbolValue). names_signature (record { functions = x; predicates = n.predicates; variables = n.variables }))
     (after_functions (row f) (names_of s) ∙ ap (with_symbols s.functions) (functions_of_literals (literals_of f)))
-    ∙ ap (λ (x : List SymbolValue). signature_of (record { functions = (with_kept s f).functions; predicates = x; variables = n.variables }))
+    ∙ ap (λ (x : List SymbolValue). names_signature (record { functions = (with_kept s f).functions; predicates = x; variables = n.variables }))
     (after_predicates (row f) (names_of s) ∙ ap (with_symbols s.predicates) (predicates_of_literals (literals_of f)))
 
 -- the literals that are made of a formula's row, over any greater signature
-row_literals : (f : WrittenFormula) (s great : SignatureValue) → Extends (with_kept s f) great → (built (numbered (names_of s) (row f))).literals ≡ clause_literals great (variables_of f) (literals_of f)
+row_literals : (f : WrittenFormula) (s great : SignatureValue) → Extends (with_kept s f) great → (built (numbered (names_of s) (row f))).literals ≡ clause_literals great (variables_in_formula f) (literals_of f)
 row_literals f s great h =
     let n : Names = names_after (names_of s) (row f) in
     let m : Names = record { functions = great.functions; predicates = great.predicates; variables = n.variables } in
@@ -61,7 +61,7 @@ row_literals f s great h =
       predicates = (h.predicates.0, h.predicates.1 ∙ ap (λ (x : SignatureValue). x.predicates ++ h.predicates.0) e);
       variables = longer_same n.variables;
     } in
-    let variables : n.variables ≡ variables_of f = after_variables (row f) (names_of s) ∙ ap (with_variables []) (variables_of_literals (literals_of f)) in
+    let variables : n.variables ≡ variables_in_formula f = after_variables (row f) (names_of s) ∙ ap (with_variables []) (variables_of_literals (literals_of f)) in
     ap (λ (x : List Node). (built x).literals) (numbered_is (row f) (names_of s) m w)
     ∙ ap (λ (b : Built). b.literals) (literals_built m (literals_of f))
     ∙ ap (λ (x : List (List ℕ)). clause_literals great x (literals_of f)) variables

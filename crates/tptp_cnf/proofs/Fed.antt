@@ -8,9 +8,9 @@ use Rattle.tptp_grammar.specs.Terminals.{Terminal, OpenRound, CloseRound}
 use Rattle.tptp_grammar.specs.Terminals as terminal
 use Rattle.tptp_grammar.specs.Written as written
 use Rattle.tptp_grammar.specs.Written.{Name, Bare, Quoted, WrittenTerm, Distinct, Apply, WrittenTerms, NoTerms, OneMore, WrittenAtom, Truth, Predicate, Sign, Positive, Negative, NegativeInBrackets, WrittenLiteral, WrittenLabel, Numbered, NoNotes, Note, InRound, InSquare, WrittenFormula}
-use Rattle.tptp_grammar.specs.Printed.{Printed, plain, as_part, name_terminal, label_terminal, times_then, term_then, arguments_then, others_then, signed_then, literal_then, barred_then, notes_then, noted_then, formula_then, printed}
+use Rattle.tptp_grammar.specs.Printed.{Printed, plain_token, as_part, name_terminal, label_terminal, times_then, term_then, arguments_then, others_then, signed_then, literal_then, barred_then, notes_then, noted_then, formula_then, printed}
 use Rattle.tptp_grammar.specs.declared.part.Part.TheVariants.{End as EndPart}
-use Rattle.tptp_cnf.specs.Meaning.{label_of, count, is_positive, is_true_atom, is_true, literals_of}
+use Rattle.tptp_cnf.specs.Meaning.{label_of, terms_count, is_positive, is_true_atom, is_true, literals_of}
 use Rattle.tptp_cnf.specs.Rows.{ItemValue, item, label_as, sign_role, Draft, begun, labelled, with_row, kept_if, with_truth, with_arity, ended, feeds}
 use Rattle.tptp_cnf.specs.declared.item.Role.{Role}
 use Rattle.tptp_cnf.specs.declared.item.Role.TheVariants as role
@@ -21,7 +21,7 @@ abbrev mutual
   pub flat_term : WrittenTerm → List ItemValue
   flat_term (written.Variable text) = item role.Variable (terminal.Variable text) 0 ∷ []
   flat_term (Distinct text) = item role.Function (terminal.Distinct text) 0 ∷ []
-  flat_term (Apply name ts) = item role.Function (name_terminal name) (count ts) ∷ flat_terms ts
+  flat_term (Apply name ts) = item role.Function (name_terminal name) (terms_count ts) ∷ flat_terms ts
 
   pub flat_terms : WrittenTerms → List ItemValue
   flat_terms NoTerms = []
@@ -29,7 +29,7 @@ abbrev mutual
 
 abbrev pub flat_atom : Bool → WrittenAtom → List ItemValue
 flat_atom positive (Truth value) = []
-flat_atom positive (Predicate name ts) = item (sign_role positive) (name_terminal name) (count ts) ∷ flat_terms ts
+flat_atom positive (Predicate name ts) = item (sign_role positive) (name_terminal name) (terms_count ts) ∷ flat_terms ts
 
 abbrev pub flat_literals : List WrittenLiteral → List ItemValue
 flat_literals ls = flat_map (λ l. flat_atom (is_positive l.sign) l.atom) ls
@@ -64,26 +64,26 @@ module _ (d : Draft) where
     term_fed (Apply (Quoted text) ts) n rest items opened = arguments_fed ts false role.Function (terminal.SingleQuoted text) rest items opened
 
     pub arguments_fed : (ts : WrittenTerms) (ends : Bool) (r : Role) (t : Terminal) (rest : List Printed) (items : List ItemValue) (opened : List ℕ)
-        → feeds (row (items ++ item r t 0 ∷ []) opened) (arguments_then ends ts rest) ≡ feeds (row (items ++ item r t (count ts) ∷ flat_terms ts) opened) rest
+        → feeds (row (items ++ item r t 0 ∷ []) opened) (arguments_then ends ts rest) ≡ feeds (row (items ++ item r t (terms_count ts) ∷ flat_terms ts) opened) rest
     arguments_fed NoTerms ends r t rest items opened = refl
     arguments_fed (OneMore u us) ends r t rest items opened =
         let first : List ItemValue = items ++ item r t 0 ∷ [] in
         let place : ℕ = length first - 1 in
-        let one : ℕ = 1 + count us in
+        let one : ℕ = 1 + terms_count us in
         term_fed u 1 (others_then ends 1 us rest) first (place ∷ opened)
         ∙ others_fed us ends 1 rest (first ++ flat_term u) place opened
-        ∙ ap (λ (x : List ItemValue). feeds (row x opened) rest) (closing items (flat_term u) (flat_terms us) r t (1 + count us))
+        ∙ ap (λ (x : List ItemValue). feeds (row x opened) rest) (closing items (flat_term u) (flat_terms us) r t (1 + terms_count us))
         ∙ ap (λ (k : ℕ). feeds (row (items ++ item r t k ∷ (flat_term u ++ flat_terms us)) opened) rest) (omega arith)
 
     others_fed : (ts : WrittenTerms) (ends : Bool) (n : ℕ) (rest : List Printed) (items : List ItemValue) (place : ℕ) (opened : List ℕ)
-        → feeds (row items (place ∷ opened)) (others_then ends n ts rest) ≡ feeds (row (with_arity place (n + count ts) (items ++ flat_terms ts)) opened) rest
+        → feeds (row items (place ∷ opened)) (others_then ends n ts rest) ≡ feeds (row (with_arity place (n + terms_count ts) (items ++ flat_terms ts)) opened) rest
     others_fed NoTerms ends n rest items place opened =
         ap (λ (x : List ItemValue). feeds (row (with_arity place n x) opened) rest) (sym (append-nil items))
         ∙ ap (λ (k : ℕ). feeds (row (with_arity place k (items ++ [])) opened) rest) (omega arith)
     others_fed (OneMore u us) ends n rest items place opened =
         term_fed u (suc n) (others_then ends (suc n) us rest) items (place ∷ opened)
         ∙ others_fed us ends (suc n) rest (items ++ flat_term u) place opened
-        ∙ ap (λ (x : List ItemValue). feeds (row (with_arity place (suc n + count us) x) opened) rest) (append_assoc items (flat_term u) (flat_terms us))
+        ∙ ap (λ (x : List ItemValue). feeds (row (with_arity place (suc n + terms_count us) x) opened) rest) (append_assoc items (flat_term u) (flat_terms us))
         ∙ ap (λ (k : ℕ). feeds (row (with_arity place k (items ++ (flat_term u ++ flat_terms us))) opened) rest) (omega arith)
 
 -- ---- literals
@@ -103,8 +103,8 @@ signed_fed Positive (Predicate (Bare text) ts) rest d = arguments_fed d ts true 
 signed_fed Positive (Predicate (Quoted text) ts) rest d = arguments_fed d ts true role.Positive (terminal.SingleQuoted text) rest d.items d.open_items
 signed_fed Negative (Predicate (Bare text) ts) rest d = arguments_fed d ts true role.Negative (terminal.LowerWord text) rest d.items d.open_items
 signed_fed Negative (Predicate (Quoted text) ts) rest d = arguments_fed d ts true role.Negative (terminal.SingleQuoted text) rest d.items d.open_items
-signed_fed NegativeInBrackets (Predicate (Bare text) ts) rest d = arguments_fed d ts true role.Negative (terminal.LowerWord text) (plain CloseRound ∷ rest) d.items d.open_items
-signed_fed NegativeInBrackets (Predicate (Quoted text) ts) rest d = arguments_fed d ts true role.Negative (terminal.SingleQuoted text) (plain CloseRound ∷ rest) d.items d.open_items
+signed_fed NegativeInBrackets (Predicate (Bare text) ts) rest d = arguments_fed d ts true role.Negative (terminal.LowerWord text) (plain_token CloseRound ∷ rest) d.items d.open_items
+signed_fed NegativeInBrackets (Predicate (Quoted text) ts) rest d = arguments_fed d ts true role.Negative (terminal.SingleQuoted text) (plain_token CloseRound ∷ rest) d.items d.open_items
 
 -- the draft behind more literals
 abbrev with_literals : List WrittenLiteral → Draft → Draft
@@ -146,15 +146,15 @@ literals_are (l ∷ ls) d =
 
 -- ---- formulas
 
-times_fed : (n : ℕ) (t : Terminal) (rest : List Printed) (d : Draft) → feeds d (times_then n (plain t) rest) ≡ feeds d rest
+times_fed : (n : ℕ) (t : Terminal) (rest : List Printed) (d : Draft) → feeds d (times_then n (plain_token t) rest) ≡ feeds d rest
 times_fed zero t rest d = refl
 times_fed (suc n) t rest d = times_fed n t rest d
 
 notes_fed : (ns : written.Notes) (rest : List Printed) (d : Draft) → feeds d (notes_then ns rest) ≡ feeds d rest
 notes_fed NoNotes rest d = refl
 notes_fed (Note t known ns) rest d = notes_fed ns rest d
-notes_fed (InRound inner ns) rest d = notes_fed inner (plain CloseRound ∷ notes_then ns rest) d ∙ notes_fed ns rest d
-notes_fed (InSquare inner ns) rest d = notes_fed inner (plain terminal.CloseSquare ∷ notes_then ns rest) d ∙ notes_fed ns rest d
+notes_fed (InRound inner ns) rest d = notes_fed inner (plain_token CloseRound ∷ notes_then ns rest) d ∙ notes_fed ns rest d
+notes_fed (InSquare inner ns) rest d = notes_fed inner (plain_token terminal.CloseSquare ∷ notes_then ns rest) d ∙ notes_fed ns rest d
 
 noted_fed : (ns : written.Notes) (rest : List Printed) (d : Draft) → feeds d (noted_then ns rest) ≡ feeds d rest
 noted_fed NoNotes rest d = refl
@@ -175,10 +175,10 @@ abbrev pub after_formula : WrittenFormula → Draft → Draft
 after_formula f d = ended (read_formula f d)
 
 abbrev line_then : List Printed → List Printed
-line_then rest = plain CloseRound ∷ as_part EndPart terminal.Dot ∷ rest
+line_then rest = plain_token CloseRound ∷ as_part EndPart terminal.Dot ∷ rest
 
 abbrev tail_then : WrittenFormula → List Printed → List Printed
-tail_then f rest = times_then f.brackets (plain CloseRound) (noted_then f.notes (line_then rest))
+tail_then f rest = times_then f.brackets (plain_token CloseRound) (noted_then f.notes (line_then rest))
 
 tail_fed : (f : WrittenFormula) (rest : List Printed) (d : Draft) → feeds d (tail_then f rest) ≡ feeds (ended d) rest
 tail_fed f rest d = times_fed f.brackets CloseRound (noted_then f.notes (line_then rest)) d ∙ noted_fed f.notes (line_then rest) d
@@ -188,7 +188,7 @@ formula_fed f rest d =
     let tail : List Printed = tail_then f rest in
     let start : Draft = labelled (label_of f.label) (begun d) in
     let one : Draft = with_signed (is_positive f.first.sign) f.first.atom start in
-    ap (λ (label : LabelValue). feeds (labelled label (begun d)) (times_then f.brackets (plain OpenRound) (literal_then f.first (barred_then f.others tail)))) (label_is f.label)
+    ap (λ (label : LabelValue). feeds (labelled label (begun d)) (times_then f.brackets (plain_token OpenRound) (literal_then f.first (barred_then f.others tail)))) (label_is f.label)
     ∙ times_fed f.brackets OpenRound (literal_then f.first (barred_then f.others tail)) start
     ∙ signed_fed f.first.sign f.first.atom (barred_then f.others tail) start
     ∙ barred_fed f.others tail one

@@ -14,7 +14,7 @@ use Rattle.tptp_grammar.specs.Terminals.{Terminal, LowerWord, SingleQuoted, Digi
 use Rattle.tptp_grammar.specs.Terminals as terminal
 use Rattle.tptp_grammar.specs.Written as written
 use Rattle.tptp_grammar.specs.Written.{Bare, Quoted, WrittenTerm, Distinct, Apply, WrittenTerms, NoTerms, OneMore, WrittenAtom, Truth, Predicate, Sign, Positive, Negative, NegativeInBrackets, WrittenLiteral, WrittenLabel, Numbered, NoNotes, Note, InRound, InSquare, WrittenFormula}
-use Rattle.tptp_grammar.specs.Printed.{Printed, plain, as_part, printed_terminals, label_terminal, times_then, term_then, arguments_then, others_then, atom_then, signed_then, literal_then, barred_then, notes_then, noted_then, formula_then, printed}
+use Rattle.tptp_grammar.specs.Printed.{Printed, plain_token, as_part, printed_terminals, label_terminal, times_then, term_then, arguments_then, others_then, atom_then, signed_then, literal_then, barred_then, notes_then, noted_then, formula_then, printed}
 use Rattle.tptp_grammar.specs.declared.part.Part.{Part}
 use Rattle.tptp_grammar.specs.declared.part.Part.TheVariants.{End as EndPart}
 use Rattle.tptp_cnf.specs.Meaning.{label_of, literals_of, is_left_out, term_functions, terms_functions, atom_predicates, atom_functions, literals_predicates, literals_functions, file_predicates, file_functions}
@@ -87,7 +87,7 @@ atom_lawful part (Predicate (Quoted text) ts) rest h = let k = arguments_lawful 
 signed_lawful : (s : Sign) (a : WrittenAtom) (rest : List Printed) → Left (signed_then s a rest) → Functions (atom_functions a) × Predicates (atom_predicates a) × Left rest
 signed_lawful Positive a rest h = atom_lawful _ a rest h
 signed_lawful Negative a rest h = atom_lawful _ a rest h.1
-signed_lawful NegativeInBrackets a rest h = let k = atom_lawful _ a (plain CloseRound ∷ rest) h.1.1 in (k.0, k.1, k.2.1)
+signed_lawful NegativeInBrackets a rest h = let k = atom_lawful _ a (plain_token CloseRound ∷ rest) h.1.1 in (k.0, k.1, k.2.1)
 
 barred_lawful : (ls : List WrittenLiteral) (rest : List Printed) → Left (barred_then ls rest) → Functions (literals_functions ls) × Predicates (literals_predicates ls) × Left rest
 barred_lawful [] rest h = (tt, tt, h)
@@ -105,8 +105,8 @@ times_lawful (suc n) t rest h = times_lawful n t rest h.1
 notes_lawful : (ns : written.Notes) (rest : List Printed) → Left (notes_then ns rest) → Left rest
 notes_lawful NoNotes rest h = h
 notes_lawful (Note t known ns) rest h = notes_lawful ns rest h.1
-notes_lawful (InRound inner ns) rest h = notes_lawful ns rest (notes_lawful inner (plain CloseRound ∷ notes_then ns rest) h.1).1
-notes_lawful (InSquare inner ns) rest h = notes_lawful ns rest (notes_lawful inner (plain terminal.CloseSquare ∷ notes_then ns rest) h.1).1
+notes_lawful (InRound inner ns) rest h = notes_lawful ns rest (notes_lawful inner (plain_token CloseRound ∷ notes_then ns rest) h.1).1
+notes_lawful (InSquare inner ns) rest h = notes_lawful ns rest (notes_lawful inner (plain_token terminal.CloseSquare ∷ notes_then ns rest) h.1).1
 
 noted_lawful : (ns : written.Notes) (rest : List Printed) → Left (noted_then ns rest) → Left rest
 noted_lawful NoNotes rest h = h
@@ -115,13 +115,13 @@ noted_lawful (InRound inner ns) rest h = notes_lawful (InRound inner ns) rest h.
 noted_lawful (InSquare inner ns) rest h = notes_lawful (InSquare inner ns) rest h.1
 
 abbrev line_then : List Printed → List Printed
-line_then rest = plain CloseRound ∷ as_part EndPart terminal.Dot ∷ rest
+line_then rest = plain_token CloseRound ∷ as_part EndPart terminal.Dot ∷ rest
 
 abbrev tail_then : WrittenFormula → List Printed → List Printed
-tail_then f rest = times_then f.brackets (plain CloseRound) (noted_then f.notes (line_then rest))
+tail_then f rest = times_then f.brackets (plain_token CloseRound) (noted_then f.notes (line_then rest))
 
 tail_lawful : (f : WrittenFormula) (rest : List Printed) → Left (tail_then f rest) → Left rest
-tail_lawful f rest h = (noted_lawful f.notes (line_then rest) (times_lawful f.brackets (plain CloseRound) (noted_then f.notes (line_then rest)) h)).1.1
+tail_lawful f rest h = (noted_lawful f.notes (line_then rest) (times_lawful f.brackets (plain_token CloseRound) (noted_then f.notes (line_then rest)) h)).1.1
 
 label_lawful : (label : WrittenLabel) → Lawful (label_terminal label) → IsClauseLabel (label_of label)
 label_lawful (written.Named (Bare text)) h = (h, λ e. cc)
@@ -137,7 +137,7 @@ formula_lawful : (f : WrittenFormula) (rest : List Printed) → Left (formula_th
 formula_lawful f rest h =
     let tail : List Printed = tail_then f rest in
     let label = h.1.1.0 in
-    let first = signed_lawful f.first.sign f.first.atom (barred_then f.others tail) (times_lawful f.brackets (plain OpenRound) (literal_then f.first (barred_then f.others tail)) h.1.1.1.1.1.1) in
+    let first = signed_lawful f.first.sign f.first.atom (barred_then f.others tail) (times_lawful f.brackets (plain_token OpenRound) (literal_then f.first (barred_then f.others tail)) h.1.1.1.1.1.1) in
     let others = barred_lawful f.others tail first.2 in (
       record {
         label = label_lawful f.label label;

@@ -7,6 +7,7 @@ pub mod Lawful
 pub mod Lookup
 pub mod Numbering
 pub mod Reached
+pub mod Rooms
 pub mod Sizes
 pub mod Stacks
 pub mod Steps

@@ -11,7 +11,7 @@ use Rattle.me_terms.specs.Signatures.{with_symbol}
 use Rattle.me_terms.specs.Values.{SymbolValue}
 use Rattle.tptp_grammar.specs.Limits.{with_variables}
 use Rattle.tptp_cnf.specs.Meaning.{with_symbols}
-use Rattle.tptp_cnf.specs.Rows.{ItemValue, symbol_as, text_as, Names, with_item_as, with_item, number_as, number_in, node_in, names_after, numbered}
+use Rattle.tptp_cnf.specs.Rows.{ItemValue, symbol_as, text_of_variable, Names, with_item_as, with_item, number_as, number_in, node_in, names_after, numbered}
 use Rattle.tptp_cnf.specs.declared.item.Role.{Role}
 use Rattle.tptp_cnf.specs.declared.item.Role.TheVariants as role
 use Rattle.tptp_cnf.specs.declared.item.Node.{Node}
@@ -86,7 +86,7 @@ within_on n m k h i = record { functions = longer_on n.functions m.functions k.f
 
 item_within : (r : Role) (n : Names) (i : ItemValue) → Within n (with_item_as r n i)
 item_within role.Function n i = record { functions = symbol_longer n.functions (symbol_as i); predicates = longer_same n.predicates; variables = longer_same n.variables }
-item_within role.Variable n i = record { functions = longer_same n.functions; predicates = longer_same n.predicates; variables = text_longer n.variables (text_as i.terminal) }
+item_within role.Variable n i = record { functions = longer_same n.functions; predicates = longer_same n.predicates; variables = text_longer n.variables (text_of_variable i.terminal) }
 item_within role.Positive n i = record { functions = longer_same n.functions; predicates = symbol_longer n.predicates (symbol_as i); variables = longer_same n.variables }
 item_within role.Negative n i = record { functions = longer_same n.functions; predicates = symbol_longer n.predicates (symbol_as i); variables = longer_same n.variables }
 
@@ -96,7 +96,7 @@ after_within (i ∷ is) n = within_on n (with_item n i) (names_after (with_item 
 
 number_stays : (r : Role) (n m : Names) (i : ItemValue) → Within (with_item_as r n i) m → number_as r (with_item_as r n i) i ≡ number_as r m i
 number_stays role.Function n m i w = position_stays (same_symbol (symbol_as i)) (with_symbol n.functions (symbol_as i)) m.functions (symbol_has n.functions (symbol_as i)) w.functions
-number_stays role.Variable n m i w = position_stays (bytes_eq (text_as i.terminal)) (with_variables n.variables (text_as i.terminal ∷ [])) m.variables (text_has n.variables (text_as i.terminal)) w.variables
+number_stays role.Variable n m i w = position_stays (bytes_eq (text_of_variable i.terminal)) (with_variables n.variables (text_of_variable i.terminal ∷ [])) m.variables (text_has n.variables (text_of_variable i.terminal)) w.variables
 number_stays role.Positive n m i w = position_stays (same_symbol (symbol_as i)) (with_symbol n.predicates (symbol_as i)) m.predicates (symbol_has n.predicates (symbol_as i)) w.predicates
 number_stays role.Negative n m i w = position_stays (same_symbol (symbol_as i)) (with_symbol n.predicates (symbol_as i)) m.predicates (symbol_has n.predicates (symbol_as i)) w.predicates
 
@@ -119,7 +119,7 @@ predicates_as role.Negative i = symbol_as i ∷ []
 predicates_as r i = []
 
 abbrev variables_as : Role → ItemValue → List (List ℕ)
-variables_as role.Variable i = text_as i.terminal ∷ []
+variables_as role.Variable i = text_of_variable i.terminal ∷ []
 variables_as r i = []
 
 abbrev pub item_functions : ItemValue → List SymbolValue

@@ -10,7 +10,7 @@ use Rattle.me_terms.specs.Variables.{weight, weights}
 use Rattle.me_terms.specs.Measures.{literal_weight, literals_weight}
 use Rattle.me_terms.specs.Values.{SymbolValue, SignatureValue, ClauseValue, ProblemValue}
 use Rattle.me_terms.specs.declared.atom.Literal.{Literal}
-use Rattle.tptp_tokens.specs.Gaps.{Piece, Blank, Line, LastLine, Block, IsPiece, Skips}
+use Rattle.tptp_tokens.specs.Gaps.{GapPiece, Blank, Line, LastLine, Block, IsPiece, Skips}
 use Rattle.tptp_tokens.specs.Remainders.{Remainder}
 use Rattle.tptp_tokens.specs.Tokens.{PlacedToken, IsCutFrom}
 use Rattle.tptp_tokens.proofs.OneCut.{first_takes}
@@ -18,22 +18,22 @@ use Rattle.tptp_grammar.specs.Terminals.{Terminal, OpenRound, CloseRound, termin
 use Rattle.tptp_grammar.specs.Terminals as terminal
 use Rattle.tptp_grammar.specs.Written as written
 use Rattle.tptp_grammar.specs.Written.{WrittenTerm, Distinct, Apply, WrittenTerms, NoTerms, OneMore, WrittenAtom, Truth, Predicate, Sign, Positive, Negative, NegativeInBrackets, WrittenLiteral, NoNotes, Note, InRound, InSquare, WrittenFormula}
-use Rattle.tptp_grammar.specs.Printed.{Printed, plain, as_part, printed_terminals, times_then, term_then, arguments_then, others_then, atom_then, signed_then, literal_then, barred_then, notes_then, noted_then, formula_then, printed}
+use Rattle.tptp_grammar.specs.Printed.{Printed, plain_token, as_part, printed_terminals, times_then, term_then, arguments_then, others_then, atom_then, signed_then, literal_then, barred_then, notes_then, noted_then, formula_then, printed}
 use Rattle.tptp_grammar.specs.declared.part.Part.{Part}
 use Rattle.tptp_grammar.specs.declared.part.Part.TheVariants.{Positive as PositivePart, Atom as AtomPart, End as EndPart}
-use Rattle.tptp_cnf.specs.Meaning.{is_positive, literals_of, is_left_out, term_functions, terms_functions, atom_predicates, atom_functions, literals_predicates, literals_functions, file_predicates, file_functions, with_symbols, term_of, terms_of, signed_literal, clause_literals, variables_of, clause_of, clauses_of, is_constant, c0_symbol, problem_of}
+use Rattle.tptp_cnf.specs.Meaning.{is_positive, literals_of, is_left_out, term_functions, terms_functions, atom_predicates, atom_functions, literals_predicates, literals_functions, file_predicates, file_functions, with_symbols, term_of, terms_of, signed_literal, clause_literals, variables_in_formula, clause_of, clauses_of, is_constant, c0_symbol, problem_of}
 use Rattle.tptp_cnf.specs.Files.{IsFile, clauses_weight}
 use Rattle.tptp_cnf.proofs.Reached.{all_of}
 
 -- ---- tokens and bytes
 
-piece_takes : (piece : Piece) (bytes rest : List ℕ) → IsPiece piece bytes rest → length rest ≤ length bytes
+piece_takes : (piece : GapPiece) (bytes rest : List ℕ) → IsPiece piece bytes rest → length rest ≤ length bytes
 piece_takes (Blank byte) bytes rest h = omega (arith, ap length h.0)
 piece_takes (Line text) bytes rest h = omega (arith, ap length h.0, length-append text (10 ∷ rest))
 piece_takes (LastLine text) bytes rest h = omega (arith, ap length h.2)
 piece_takes (Block text) bytes rest h = omega (arith, ap length h.1, ap length h.2.here, length-append text (42 ∷ 47 ∷ rest))
 
-skips_take : (pieces : List Piece) (bytes rest : List ℕ) → Skips pieces bytes rest → length rest ≤ length bytes
+pub skips_take : (pieces : List GapPiece) (bytes rest : List ℕ) → Skips pieces bytes rest → length rest ≤ length bytes
 skips_take [] bytes rest h = omega (arith, ap length h.0)
 skips_take (p ∷ pieces) bytes rest h = omega (arith, piece_takes p bytes h.0 h.1, skips_take pieces h.0 rest h.2)
 
@@ -43,7 +43,7 @@ tokens_fit (t ∷ tokens) now h =
     let n = h.1 in
     omega (arith, tokens_fit tokens h.0 h.2, first_takes t.token n.middle h.0.bytes n.first, skips_take n.gap.0 now.bytes n.middle n.gap.1)
 
-terminals_len : (tokens : List PlacedToken) → length (terminals tokens) ≡ length tokens
+pub terminals_len : (tokens : List PlacedToken) → length (terminals tokens) ≡ length tokens
 terminals_len [] = refl
 terminals_len (t ∷ tokens) = omega (arith, terminals_len tokens)
 
@@ -88,7 +88,7 @@ module _ (signature : SignatureValue) (variables : List (List ℕ)) where
   signed_long : (s : Sign) (a : WrittenAtom) (rest : List Printed) → literals_weight (signed_literal signature variables (is_positive s) a) + length rest ≤ length (signed_then s a rest)
   signed_long Positive a rest = atom_long true PositivePart a rest
   signed_long Negative a rest = omega (arith, atom_long false AtomPart a rest)
-  signed_long NegativeInBrackets a rest = omega (arith, atom_long false AtomPart a (plain CloseRound ∷ rest))
+  signed_long NegativeInBrackets a rest = omega (arith, atom_long false AtomPart a (plain_token CloseRound ∷ rest))
 
   abbrev literals : WrittenLiteral → List Literal
   literals l = signed_literal signature variables (is_positive l.sign) l.atom
@@ -116,8 +116,8 @@ times_long (suc n) t rest = omega (arith, times_long n t rest)
 notes_long : (ns : written.Notes) (rest : List Printed) → length rest ≤ length (notes_then ns rest)
 notes_long NoNotes rest = omega arith
 notes_long (Note t known ns) rest = omega (arith, notes_long ns rest)
-notes_long (InRound inner ns) rest = omega (arith, notes_long inner (plain CloseRound ∷ notes_then ns rest), notes_long ns rest)
-notes_long (InSquare inner ns) rest = omega (arith, notes_long inner (plain terminal.CloseSquare ∷ notes_then ns rest), notes_long ns rest)
+notes_long (InRound inner ns) rest = omega (arith, notes_long inner (plain_token CloseRound ∷ notes_then ns rest), notes_long ns rest)
+notes_long (InSquare inner ns) rest = omega (arith, notes_long inner (plain_token terminal.CloseSquare ∷ notes_then ns rest), notes_long ns rest)
 
 noted_long : (ns : written.Notes) (rest : List Printed) → length rest ≤ length (noted_then ns rest)
 noted_long NoNotes rest = omega arith
@@ -126,22 +126,22 @@ noted_long (InRound inner ns) rest = omega (arith, notes_long (InRound inner ns)
 noted_long (InSquare inner ns) rest = omega (arith, notes_long (InSquare inner ns) rest)
 
 abbrev line_then : List Printed → List Printed
-line_then rest = plain CloseRound ∷ as_part EndPart terminal.Dot ∷ rest
+line_then rest = plain_token CloseRound ∷ as_part EndPart terminal.Dot ∷ rest
 
 abbrev tail_then : WrittenFormula → List Printed → List Printed
-tail_then f rest = times_then f.brackets (plain CloseRound) (noted_then f.notes (line_then rest))
+tail_then f rest = times_then f.brackets (plain_token CloseRound) (noted_then f.notes (line_then rest))
 
-formula_long : (signature : SignatureValue) (f : WrittenFormula) (rest : List Printed) → literals_weight (clause_literals signature (variables_of f) (literals_of f)) + 1 + length rest ≤ length (formula_then f rest)
+formula_long : (signature : SignatureValue) (f : WrittenFormula) (rest : List Printed) → literals_weight (clause_literals signature (variables_in_formula f) (literals_of f)) + 1 + length rest ≤ length (formula_then f rest)
 formula_long signature f rest =
     let tail : List Printed = tail_then f rest in
     let inner : List Printed = literal_then f.first (barred_then f.others tail) in
     omega (
       arith,
-      weight_more signature (variables_of f) f.first f.others,
-      signed_long signature (variables_of f) f.first.sign f.first.atom (barred_then f.others tail),
-      barred_long signature (variables_of f) f.others tail,
-      times_long f.brackets (plain OpenRound) inner,
-      times_long f.brackets (plain CloseRound) (noted_then f.notes (line_then rest)),
+      weight_more signature (variables_in_formula f) f.first f.others,
+      signed_long signature (variables_in_formula f) f.first.sign f.first.atom (barred_then f.others tail),
+      barred_long signature (variables_in_formula f) f.others tail,
+      times_long f.brackets (plain_token OpenRound) inner,
+      times_long f.brackets (plain_token CloseRound) (noted_then f.notes (line_then rest)),
       noted_long f.notes (line_then rest),
     )
 
@@ -166,7 +166,7 @@ sized_by false signature n f fs h = (
     arith,
     h.symbols,
     sum_more (clause_of signature n f) (clauses_of signature (n + 1) fs),
-    literals_few signature (variables_of f) (literals_of f),
+    literals_few signature (variables_in_formula f) (literals_of f),
     length-append (literals_functions (literals_of f)) (file_functions fs),
     length-append (literals_predicates (literals_of f)) (file_predicates fs),
   ),
@@ -176,7 +176,7 @@ pub sized : (signature : SignatureValue) (n : ℕ) (fs : List WrittenFormula) �
 sized signature n [] = record { clauses = omega arith; symbols = omega arith }
 sized signature n (f ∷ fs) = let k = sized_by (is_left_out f) signature n f fs (sized signature (n + 1) fs) in record { clauses = k.0; symbols = k.1 }
 
-one_symbol : (b : Bool) (known : List SymbolValue) (s : SymbolValue) → length (if b then known else known ++ s ∷ []) ≤ length known + 1
+pub one_symbol : (b : Bool) (known : List SymbolValue) (s : SymbolValue) → length (if b then known else known ++ s ∷ []) ≤ length known + 1
 one_symbol true known s = omega arith
 one_symbol false known s = omega (arith, length-append known (s ∷ []))
 

@@ -9,8 +9,8 @@ use Rattle.me_terms.specs.declared.atom.Literal.{Literal}
 use Rattle.tptp_grammar.specs.Written as written
 use Rattle.tptp_grammar.specs.Written.{Name, Bare, Quoted, WrittenTerm, Distinct, Apply, WrittenTerms, NoTerms, OneMore, WrittenAtom, Truth, Predicate, WrittenLiteral}
 use Rattle.tptp_grammar.specs.Printed.{name_terminal}
-use Rattle.tptp_cnf.specs.Meaning.{count, name_symbol, is_positive, term_functions, terms_functions, term_variables, terms_variables, atom_predicates, atom_functions, atom_variables, literals_predicates, literals_functions, literals_variables, term_of, terms_of, signed_literal, clause_literals}
-use Rattle.tptp_cnf.specs.Rows.{ItemValue, item, Names, signature_of, node_in, Built, with_node, built}
+use Rattle.tptp_cnf.specs.Meaning.{terms_count, name_symbol, is_positive, term_functions, terms_functions, variables_in_term, terms_variables, atom_predicates, atom_functions, atom_variables, literals_predicates, literals_functions, literals_variables, term_of, terms_of, signed_literal, clause_literals}
+use Rattle.tptp_cnf.specs.Rows.{ItemValue, item, Names, names_signature, node_in, Built, with_node, built}
 use Rattle.tptp_cnf.specs.declared.item.Role.{Role}
 use Rattle.tptp_cnf.specs.declared.item.Role.TheVariants as role
 use Rattle.tptp_cnf.specs.declared.item.Node.{Node}
@@ -47,7 +47,7 @@ mutual
       ∙ predicates_of_terms ts
 
 mutual
-  variables_of_term : (t : WrittenTerm) → flat_map item_variables (flat_term t) ≡ term_variables t
+  variables_of_term : (t : WrittenTerm) → flat_map item_variables (flat_term t) ≡ variables_in_term t
   variables_of_term (written.Variable text) = refl
   variables_of_term (Distinct text) = refl
   variables_of_term (Apply name ts) = variables_of_terms ts
@@ -57,7 +57,7 @@ mutual
   variables_of_terms (OneMore t ts) =
       flat_map-append item_variables (flat_term t) (flat_terms ts)
       ∙ ap (λ (x : List (List ℕ)). x ++ flat_map item_variables (flat_terms ts)) (variables_of_term t)
-      ∙ ap (λ (x : List (List ℕ)). term_variables t ++ x) (variables_of_terms ts)
+      ∙ ap (λ (x : List (List ℕ)). variables_in_term t ++ x) (variables_of_terms ts)
 
 functions_of_atom : (b : Bool) (a : WrittenAtom) → flat_map item_functions (flat_atom b a) ≡ atom_functions a
 functions_of_atom b (Truth value) = refl
@@ -110,11 +110,11 @@ module _ (m : Names) where
   abbrev terms : WrittenTerms → Arguments
   terms ts = terms_of m.functions m.variables ts
 
-  taken : (ts : WrittenTerms) (xs : List TermValue) → arguments_of (take (count ts) (onto (terms ts) xs)) ≡ terms ts
+  taken : (ts : WrittenTerms) (xs : List TermValue) → arguments_of (take (terms_count ts) (onto (terms ts) xs)) ≡ terms ts
   taken NoTerms xs = refl
   taken (OneMore t ts) xs = ap (Cons (term t)) (taken ts xs)
 
-  dropped : (ts : WrittenTerms) (xs : List TermValue) → drop (count ts) (onto (terms ts) xs) ≡ xs
+  dropped : (ts : WrittenTerms) (xs : List TermValue) → drop (terms_count ts) (onto (terms ts) xs) ≡ xs
   dropped NoTerms xs = refl
   dropped (OneMore t ts) xs = dropped ts xs
 
@@ -123,7 +123,7 @@ module _ (m : Names) where
 
   -- a name by its number
   abbrev node : Role → Name → WrittenTerms → Node
-  node r name ts = node_in m (item r (name_terminal name) (count ts))
+  node r name ts = node_in m (item r (name_terminal name) (terms_count ts))
 
   abbrev on_terms : Built → List TermValue → Built
   on_terms b xs = record { terms = xs; literals = b.literals }
@@ -132,9 +132,9 @@ module _ (m : Names) where
   split xs ys ns = ap (λ (x : List Node). x ++ ns) (map-append (node_in m) xs ys) ∙ append_assoc (nodes xs) (nodes ys) ns
 
   -- a function whose arguments stand behind it
-  applied : (f : ℕ) (ts : WrittenTerms) (b : Built) → on_terms b (App f (arguments_of (take (count ts) (onto (terms ts) b.terms))) ∷ drop (count ts) (onto (terms ts) b.terms)) ≡ on_terms b (App f (terms ts) ∷ b.terms)
+  applied : (f : ℕ) (ts : WrittenTerms) (b : Built) → on_terms b (App f (arguments_of (take (terms_count ts) (onto (terms ts) b.terms))) ∷ drop (terms_count ts) (onto (terms ts) b.terms)) ≡ on_terms b (App f (terms ts) ∷ b.terms)
   applied f ts b =
-      ap (λ (x : Arguments). on_terms b (App f x ∷ drop (count ts) (onto (terms ts) b.terms))) (taken ts b.terms)
+      ap (λ (x : Arguments). on_terms b (App f x ∷ drop (terms_count ts) (onto (terms ts) b.terms))) (taken ts b.terms)
       ∙ ap (λ (x : List TermValue). on_terms b (App f (terms ts) ∷ x)) (dropped ts b.terms)
 
   mutual
@@ -155,13 +155,13 @@ module _ (m : Names) where
   on_literal b positive p ts xs = record { terms = xs; literals = (record { positive = positive; atom = record { pred = p; args = ts } }) ∷ b.literals }
 
   -- a predicate whose arguments stand behind it
-  said : (positive : Bool) (p : ℕ) (ts : WrittenTerms) (b : Built) → on_literal b positive p (arguments_of (take (count ts) (onto (terms ts) b.terms))) (drop (count ts) (onto (terms ts) b.terms)) ≡ on_literal b positive p (terms ts) b.terms
+  said : (positive : Bool) (p : ℕ) (ts : WrittenTerms) (b : Built) → on_literal b positive p (arguments_of (take (terms_count ts) (onto (terms ts) b.terms))) (drop (terms_count ts) (onto (terms ts) b.terms)) ≡ on_literal b positive p (terms ts) b.terms
   said positive p ts b =
-      ap (λ (x : Arguments). on_literal b positive p x (drop (count ts) (onto (terms ts) b.terms))) (taken ts b.terms)
+      ap (λ (x : Arguments). on_literal b positive p x (drop (terms_count ts) (onto (terms ts) b.terms))) (taken ts b.terms)
       ∙ ap (λ (x : List TermValue). on_literal b positive p (terms ts) x) (dropped ts b.terms)
 
   abbrev literal : Bool → WrittenAtom → List Literal
-  literal positive a = signed_literal (signature_of m) m.variables positive a
+  literal positive a = signed_literal (names_signature m) m.variables positive a
 
   atom_built : (positive : Bool) (a : WrittenAtom) (ns : List Node) → built (nodes (flat_atom positive a) ++ ns) ≡ record { terms = (built ns).terms; literals = literal positive a ++ (built ns).literals }
   atom_built positive (Truth value) ns = refl
@@ -170,7 +170,7 @@ module _ (m : Names) where
   atom_built false (Predicate (Bare text) ts) ns = ap (with_node (node role.Negative (Bare text) ts)) (terms_built ts ns) ∙ said false (node role.Negative (Bare text) ts).number ts (built ns)
   atom_built false (Predicate (Quoted text) ts) ns = ap (with_node (node role.Negative (Quoted text) ts)) (terms_built ts ns) ∙ said false (node role.Negative (Quoted text) ts).number ts (built ns)
 
-  pub literals_built : (ls : List WrittenLiteral) → built (nodes (flat_literals ls)) ≡ record { terms = []; literals = clause_literals (signature_of m) m.variables ls }
+  pub literals_built : (ls : List WrittenLiteral) → built (nodes (flat_literals ls)) ≡ record { terms = []; literals = clause_literals (names_signature m) m.variables ls }
   literals_built [] = refl
   literals_built (l ∷ ls) =
       ap built (map-append (node_in m) (flat_atom (is_positive l.sign) l.atom) (flat_literals ls))

@@ -7,6 +7,7 @@ use Rattle.std.proofs.lemmas.Bool.Decides.{nat_tests}
 use Rattle.std.specs.Prelude.{◌||◌, not, slice_get, if◌then◌else◌}
 use Rattle.std.specs.List.{All, AllByRecursion, list_any, list_all, position_or_len}
 use Rattle.std.specs.Str.{bytes_eq}
+use Rattle.me_io.specs.declared.source.TheConstants.{MAX_BYTES}
 use Rattle.me_terms.specs.LabelEquality.{same_symbol}
 use Rattle.me_terms.specs.LabelEqualityLaws.{same_symbol_sound}
 use Rattle.me_terms.specs.Labels.{IsFunctionSymbol, IsPredicateSymbol}
@@ -21,7 +22,7 @@ use Rattle.tptp_grammar.specs.Limits.{with_variables}
 use Rattle.tptp_grammar.specs.Written as written
 use Rattle.tptp_grammar.specs.Written.{WrittenTerm, Distinct, Apply, WrittenTerms, NoTerms, OneMore, WrittenAtom, Truth, Predicate, WrittenLiteral, WrittenFormula}
 use Rattle.tptp_cnf.specs.Meaning as meaning
-use Rattle.tptp_cnf.specs.Meaning.{is_positive, literals_of, is_left_out, name_symbol, term_functions, terms_functions, term_variables, terms_variables, atom_predicates, atom_functions, atom_variables, literals_predicates, literals_functions, literals_variables, file_predicates, file_functions, with_symbols, place_of, term_of, terms_of, signed_literal, clause_literals, variables_of, clause_of, clauses_of, is_constant, c0_symbol, with_constant, problem_of}
+use Rattle.tptp_cnf.specs.Meaning.{is_positive, literals_of, is_left_out, name_symbol, term_functions, terms_functions, variables_in_term, terms_variables, atom_predicates, atom_functions, atom_variables, literals_predicates, literals_functions, literals_variables, file_predicates, file_functions, with_symbols, text_place, term_of, terms_of, signed_literal, clause_literals, variables_in_formula, clause_of, clauses_of, is_constant, c0_symbol, with_constant, problem_of}
 use Rattle.tptp_cnf.specs.Files.{IsFile, clauses_weight}
 use Rattle.tptp_cnf.proofs.Lawful.{both, AllLawful, tokens_lawful, FormulaLawful, file_lawful, functions_lawful, predicates_lawful}
 use Rattle.tptp_cnf.proofs.Numbering.{Longer, longer_same, longer_on, symbol_has, symbol_longer, text_has, text_longer, position_stays}
@@ -32,7 +33,7 @@ use Rattle.tptp_cnf.proofs.Variables.{pushed}
 -- ---- symbols that stand in a list
 
 -- the symbols stand in the list
-abbrev Stand : List SymbolValue → List SymbolValue → Type 0
+abbrev pub Stand : List SymbolValue → List SymbolValue → Type 0
 Stand ss known = AllByRecursion (λ s. list_any (same_symbol s) known ≡ true) ss
 
 any_append : (p : SymbolValue → Bool) (xs ys : List SymbolValue) → list_any p xs ≡ true → list_any p (xs ++ ys) ≡ true
@@ -43,7 +44,7 @@ any_append p (x ∷ xs) ys h = either (p x) (list_any p xs) (list_any p (xs ++ y
     either true b c h k = refl
     either false b c h k = k h
 
-any_longer : (p : SymbolValue → Bool) (xs ys : List SymbolValue) → Longer xs ys → list_any p xs ≡ true → list_any p ys ≡ true
+pub any_longer : (p : SymbolValue → Bool) (xs ys : List SymbolValue) → Longer xs ys → list_any p xs ≡ true → list_any p ys ≡ true
 any_longer p xs ys l h = ap (list_any p) l.1 ∙ any_append p xs l.0 h
 
 stays : (ss known : List SymbolValue) (s : SymbolValue) → list_any (same_symbol s) known ≡ true → list_any (same_symbol s) (with_symbols known ss) ≡ true
@@ -83,7 +84,7 @@ found ss s h = passed (same_symbol s) s.arity ss (same_arity s) h
 
 -- ---- known symbols
 
-counts : (functions : List SymbolValue) (vs : List (List ℕ)) (ts : WrittenTerms) → variables.count (terms_of functions vs ts) ≡ meaning.count ts
+counts : (functions : List SymbolValue) (vs : List (List ℕ)) (ts : WrittenTerms) → variables.count (terms_of functions vs ts) ≡ meaning.terms_count ts
 counts functions vs NoTerms = refl
 counts functions vs (OneMore t ts) = omega (arith, counts functions vs ts)
 
@@ -140,11 +141,11 @@ module _ (signature : SignatureValue) (vs : List (List ℕ)) where
 -- ---- variables
 
 abbrev places : List (List ℕ) → List (List ℕ) → List ℕ
-places vs texts = map (λ text. place_of text vs) texts
+places vs texts = map (λ text. text_place text vs) texts
 
 module _ (functions : List SymbolValue) (vs : List (List ℕ)) where
   mutual
-    term_places : (t : WrittenTerm) → variables.term_variables (term_of functions vs t) ≡ places vs (term_variables t)
+    term_places : (t : WrittenTerm) → variables.term_variables (term_of functions vs t) ≡ places vs (variables_in_term t)
     term_places (written.Variable text) = refl
     term_places (Distinct text) = refl
     term_places (Apply name ts) = terms_places ts
@@ -153,8 +154,8 @@ module _ (functions : List SymbolValue) (vs : List (List ℕ)) where
     terms_places NoTerms = refl
     terms_places (OneMore t ts) =
         ap (λ (x : List ℕ). x ++ variables.variables_of (terms_of functions vs ts)) (term_places t)
-        ∙ ap (λ (x : List ℕ). places vs (term_variables t) ++ x) (terms_places ts)
-        ∙ sym (map-append (λ text. place_of text vs) (term_variables t) (terms_variables ts))
+        ∙ ap (λ (x : List ℕ). places vs (variables_in_term t) ++ x) (terms_places ts)
+        ∙ sym (map-append (λ text. text_place text vs) (variables_in_term t) (terms_variables ts))
 
 variables-append : (xs ys : List Literal) → clause_variables (xs ++ ys) ≡ clause_variables xs ++ clause_variables ys
 variables-append [] ys = refl
@@ -170,7 +171,7 @@ literals_places signature vs (l ∷ ls) =
     variables-append (signed_literal signature vs (is_positive l.sign) l.atom) (clause_literals signature vs ls)
     ∙ ap (λ (x : List ℕ). x ++ clause_variables (clause_literals signature vs ls)) (atom_places signature vs (is_positive l.sign) l.atom)
     ∙ ap (λ (x : List ℕ). places vs (atom_variables l.atom) ++ x) (literals_places signature vs ls)
-    ∙ sym (map-append (λ text. place_of text vs) (atom_variables l.atom) (literals_variables ls))
+    ∙ sym (map-append (λ text. text_place text vs) (atom_variables l.atom) (literals_variables ls))
 
 texts_longer : (texts known : List (List ℕ)) → Longer known (with_variables known texts)
 texts_longer [] known = ([], sym (append-nil known))
@@ -179,19 +180,19 @@ texts_longer (t ∷ texts) known =
     let more = texts_longer texts (with_variables known (t ∷ [])) in
     (one.0 ++ more.0, more.1 ∙ ap (λ (x : List (List ℕ)). x ++ more.0) one.1 ∙ append_assoc known one.0 more.0)
 
-place_within : (text : List ℕ) (known : List (List ℕ)) → list_any (bytes_eq text) known ≡ true → place_of text known < length known
+place_within : (text : List ℕ) (known : List (List ℕ)) → list_any (bytes_eq text) known ≡ true → text_place text known < length known
 place_within text [] h = absurd cc
 place_within text (k ∷ known) h = by (bytes_eq text k) (list_any (bytes_eq text) known) h (place_within text known)
   where
-    by : (a b : Bool) → (a || b) ≡ true → (b ≡ true → place_of text known < length known) → cond (not a) (1 + place_of text known) 0 < length (k ∷ known)
+    by : (a b : Bool) → (a || b) ≡ true → (b ≡ true → text_place text known < length known) → cond (not a) (1 + text_place text known) 0 < length (k ∷ known)
     by true b j f = omega arith
     by false b j f = omega (arith, f j)
 
-place_new : (text : List ℕ) (known : List (List ℕ)) → list_any (bytes_eq text) known ≡ false → place_of text known ≡ length known
+place_new : (text : List ℕ) (known : List (List ℕ)) → list_any (bytes_eq text) known ≡ false → text_place text known ≡ length known
 place_new text [] h = refl
 place_new text (k ∷ known) h = by (bytes_eq text k) (list_any (bytes_eq text) known) h (place_new text known)
   where
-    by : (a b : Bool) → (a || b) ≡ false → (b ≡ false → place_of text known ≡ length known) → cond (not a) (1 + place_of text known) 0 ≡ length (k ∷ known)
+    by : (a b : Bool) → (a || b) ≡ false → (b ≡ false → text_place text known ≡ length known) → cond (not a) (1 + text_place text known) 0 ≡ length (k ∷ known)
     by true b j f = absurd cc
     by false b j f = omega (arith, f j)
 
@@ -214,15 +215,15 @@ module _ (t : List ℕ) (texts known all : List (List ℕ)) where
   numbered_by : (b : Bool) → list_any (bytes_eq t) known ≡ b → Longer one all → is_numbered_from (length one) (places all texts) ≡ true → is_numbered_from (length known) (places all (t ∷ texts)) ≡ true
   numbered_by true e longer rest =
       let same : one ≡ known = ap one_if e in
-      let place : place_of t known ≡ place_of t all = ap (place_of t) (sym same) ∙ position_stays (bytes_eq t) one all (text_has known t) longer in
-      numbered_old (length known) (place_of t all) (places all texts) (subst (λ (n : ℕ). n < length known) place (place_within t known e))
+      let place : text_place t known ≡ text_place t all = ap (text_place t) (sym same) ∙ position_stays (bytes_eq t) one all (text_has known t) longer in
+      numbered_old (length known) (text_place t all) (places all texts) (subst (λ (n : ℕ). n < length known) place (place_within t known e))
       (ap (λ (x : List (List ℕ)). is_numbered_from (length x) (places all texts)) (sym same) ∙ rest)
   numbered_by false e longer rest =
       let same : one ≡ known ++ t ∷ [] = ap one_if e in
       let long : length known + 1 ≡ length one = omega (arith, ap length same, length-append known (t ∷ [])) in
-      let place : place_of t all ≡ length known =
-      sym (position_stays (bytes_eq t) one all (text_has known t) longer) ∙ ap (place_of t) same ∙ sym (pushed t known e) ∙ place_new t known e in
-      numbered_new (length known) (place_of t all) (places all texts) place (ap (λ (n : ℕ). is_numbered_from n (places all texts)) long ∙ rest)
+      let place : text_place t all ≡ length known =
+      sym (position_stays (bytes_eq t) one all (text_has known t) longer) ∙ ap (text_place t) same ∙ sym (pushed t known e) ∙ place_new t known e in
+      numbered_new (length known) (text_place t all) (places all texts) place (ap (λ (n : ℕ). is_numbered_from n (places all texts)) long ∙ rest)
 
 -- texts by their places among all of them are numbered by first occurrence
 numbered_texts : (texts known all : List (List ℕ)) → Longer (with_variables known texts) all → is_numbered_from (length known) (places all texts) ≡ true
@@ -233,10 +234,10 @@ numbered_texts (t ∷ texts) known all l =
 
 -- ---- clauses
 
-clause_numbered : (signature : SignatureValue) (f : WrittenFormula) → is_numbered_from 0 (clause_variables (clause_literals signature (variables_of f) (literals_of f))) ≡ true
+clause_numbered : (signature : SignatureValue) (f : WrittenFormula) → is_numbered_from 0 (clause_variables (clause_literals signature (variables_in_formula f) (literals_of f))) ≡ true
 clause_numbered signature f =
-    ap (is_numbered_from 0) (literals_places signature (variables_of f) (literals_of f))
-    ∙ numbered_texts (literals_variables (literals_of f)) [] (variables_of f) (longer_same (variables_of f))
+    ap (is_numbered_from 0) (literals_places signature (variables_in_formula f) (literals_of f))
+    ∙ numbered_texts (literals_variables (literals_of f)) [] (variables_in_formula f) (longer_same (variables_in_formula f))
 
 literals_light : (ls : List Literal) → length ls ≤ literals_weight ls
 literals_light [] = omega arith
@@ -246,19 +247,19 @@ pub record Kept (signature : SignatureValue) (f : WrittenFormula) : Type 0 where
   pub functions : Stand (literals_functions (literals_of f)) signature.functions
   pub predicates : Stand (literals_predicates (literals_of f)) signature.predicates
 
-valid_clause : (signature : SignatureValue) (n bound : ℕ) (f : WrittenFormula) → FormulaLawful f → Kept signature f → literals_weight (clause_literals signature (variables_of f) (literals_of f)) ≤ bound → bound ≤ 67108864 → IsValidClause signature (clause_of signature n f)
+valid_clause : (signature : SignatureValue) (n bound : ℕ) (f : WrittenFormula) → FormulaLawful f → Kept signature f → literals_weight (clause_literals signature (variables_in_formula f) (literals_of f)) ≤ bound → bound ≤ MAX_BYTES → IsValidClause signature (clause_of signature n f)
 valid_clause signature n bound f h k le small = record {
-  known = literals_known signature (variables_of f) (literals_of f) k.predicates k.functions;
+  known = literals_known signature (variables_in_formula f) (literals_of f) k.predicates k.functions;
   numbered = clause_numbered signature f;
   named = h.label;
-  few_literals = omega (arith, literals_light (clause_literals signature (variables_of f) (literals_of f)));
+  few_literals = omega (arith, literals_light (clause_literals signature (variables_in_formula f) (literals_of f)));
 }
 
 sum_more : (c : ClauseValue) (cs : List ClauseValue) → clauses_weight (c ∷ cs) ≡ literals_weight c.literals + clauses_weight cs
 sum_more c cs = omega (arith, sum_by-append (λ d. literals_weight d.literals) (c ∷ []) cs)
 
 valid_by : (b : Bool) (signature : SignatureValue) (n bound : ℕ) (f : WrittenFormula) (cs : List ClauseValue) → FormulaLawful f → (b ≡ false → Kept signature f)
-    → clauses_weight (if b then cs else clause_of signature n f ∷ cs) ≤ bound → bound ≤ 67108864 → (clauses_weight cs ≤ bound → All (IsValidClause signature) cs) → All (IsValidClause signature) (if b then cs else clause_of signature n f ∷ cs)
+    → clauses_weight (if b then cs else clause_of signature n f ∷ cs) ≤ bound → bound ≤ MAX_BYTES → (clauses_weight cs ≤ bound → All (IsValidClause signature) cs) → All (IsValidClause signature) (if b then cs else clause_of signature n f ∷ cs)
 valid_by true signature n bound f cs h k le small rest = rest le
 valid_by false signature n bound f cs h k le small rest =
     All-cons (IsValidClause signature) (clause_of signature n f) cs (valid_clause signature n bound f h (k refl) (omega (arith, sum_more (clause_of signature n f) cs)) small) (rest (omega (arith, sum_more (clause_of signature n f) cs)))
@@ -271,7 +272,7 @@ stand_by true false xs ys known e h = absurd cc
 stand_by false true xs ys known e h = absurd cc
 
 valid_clauses : (fs : List WrittenFormula) (signature : SignatureValue) (n bound : ℕ) → AllByRecursion FormulaLawful fs → Stand (file_functions fs) signature.functions → Stand (file_predicates fs) signature.predicates
-    → clauses_weight (clauses_of signature n fs) ≤ bound → bound ≤ 67108864 → All (IsValidClause signature) (clauses_of signature n fs)
+    → clauses_weight (clauses_of signature n fs) ≤ bound → bound ≤ MAX_BYTES → All (IsValidClause signature) (clauses_of signature n fs)
 valid_clauses [] signature n bound h i j le small = All-nil (IsValidClause signature)
 valid_clauses (f ∷ fs) signature n bound h i j le small =
     let a = stand_by (is_left_out f) (is_left_out f) (literals_functions (literals_of f)) (file_functions fs) signature.functions refl i in
@@ -314,7 +315,7 @@ has_constant false functions e = any_back functions
 
 -- ---- problems
 
-file_valid : (fs : List WrittenFormula) (bound : ℕ) → AllByRecursion FormulaLawful fs → clauses_weight (problem_of fs).clauses + length (problem_of fs).clauses ≤ bound → bound ≤ 67108864 → IsValid (problem_of fs)
+file_valid : (fs : List WrittenFormula) (bound : ℕ) → AllByRecursion FormulaLawful fs → clauses_weight (problem_of fs).clauses + length (problem_of fs).clauses ≤ bound → bound ≤ MAX_BYTES → IsValid (problem_of fs)
 file_valid fs bound h le small =
     let fns : List SymbolValue = with_symbols [] (file_functions fs) in
     let b : Bool = list_any is_constant fns in
@@ -329,7 +330,7 @@ file_valid fs bound h le small =
       c0_constant = passed is_constant 0 (with_constant fns) (λ t e. e) (has_constant b fns refl);
     }
 
-pub valid : (bytes : List ℕ) (problem : ProblemValue) → IsFile bytes problem → Small bytes problem → length bytes ≤ 67108864 → IsValid problem
+pub valid : (bytes : List ℕ) (problem : ProblemValue) → IsFile bytes problem → Small bytes problem → length bytes ≤ MAX_BYTES → IsValid problem
 valid bytes problem f s le =
     let lawful = file_lawful f.file (subst AllLawful f.written.written (tokens_lawful f.tokens (all_of bytes) f.cut)) in
     let size = subst (Small bytes) f.means s in

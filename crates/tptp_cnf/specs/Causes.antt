@@ -1,18 +1,18 @@
 -- Why bytes are refused, and where.
 use Rattle.std.specs.Prelude.{◌≡◌, ◌⊎◌, ℕ, List, [], ◌∷◌, length}
 use Rattle.tptp_tokens.specs.Remainders.{Remainder}
-use Rattle.tptp_tokens.specs.Tokens.{PlacedToken, IsNext, IsCut}
+use Rattle.tptp_tokens.specs.Tokens.{PlacedToken, IsNextToken, IsCut}
 use Rattle.tptp_grammar.specs.Terminals.{terminal, terminals}
-use Rattle.tptp_grammar.specs.Refusals.{IsRefused, IsCutShort}
+use Rattle.tptp_grammar.specs.Refusals.{IsRefusalOf, IsCutShort}
 use Rattle.tptp_grammar.specs.declared.refusal.Refusal.{Refusal}
 use Rattle.tptp_grammar.specs.declared.refusal.Refusal.TheVariants as refusal
 use Rattle.tptp_cnf.specs.declared.error.CnfError.{CnfError}
 use Rattle.tptp_cnf.specs.declared.error.CnfError.TheVariants as error
 
--- what is left begins with these tokens, and then this is left
-abbrev pub BeginsWith : Remainder → List PlacedToken → Remainder → Type 0
-BeginsWith now [] left = now ≡ left
-BeginsWith now (token ∷ tokens) left = (next : Remainder) × IsNext now token next × BeginsWith next tokens left
+-- these tokens come first in what is left now, and then this is left
+abbrev pub AreFirstTokens : List PlacedToken → Remainder → Remainder → Type 0
+AreFirstTokens [] now left = now ≡ left
+AreFirstTokens (token ∷ tokens) now left = (next : Remainder) × IsNextToken now token next × AreFirstTokens tokens next left
 
 -- The token at this place, behind others with which the bytes begin, is the first refused one, and this is why.
 pub record IsRefusedToken (why : Refusal) (at : ℕ) (bytes : List ℕ) : Type 0 where
@@ -20,9 +20,9 @@ pub record IsRefusedToken (why : Refusal) (at : ℕ) (bytes : List ℕ) : Type 0
   pub token : PlacedToken
   pub left : Remainder
   pub rest : Remainder
-  pub front : BeginsWith (record { at = 0; bytes = bytes }) before left
-  pub next : IsNext left token rest
-  pub refused : IsRefused why (terminals before) (terminal token.token)
+  pub front : AreFirstTokens before (record { at = 0; bytes = bytes }) left
+  pub next : IsNextToken left token rest
+  pub refused : IsRefusalOf why (terminals before) (terminal token.token)
   pub place : at ≡ token.at
 
 -- No token is refused, but the file ends too early, at its length.
@@ -43,8 +43,8 @@ error_of (refusal.Inappropriate what) at = error.Inappropriate what at
 error_of (refusal.Limit which) at = error.Limit which at
 
 -- The error is the cause. Want of memory is free.
-abbrev pub IsCause : List ℕ → CnfError → Type 0
-IsCause bytes (error.Syntax at) = RefusedAt refusal.Syntax at bytes
-IsCause bytes (error.Inappropriate what at) = RefusedAt (refusal.Inappropriate what) at bytes
-IsCause bytes (error.Limit which at) = RefusedAt (refusal.Limit which) at bytes
-IsCause bytes error.Memory = Unit {0}
+abbrev pub IsErrorCause : List ℕ → CnfError → Type 0
+IsErrorCause bytes (error.Syntax at) = RefusedAt refusal.Syntax at bytes
+IsErrorCause bytes (error.Inappropriate what at) = RefusedAt (refusal.Inappropriate what) at bytes
+IsErrorCause bytes (error.Limit which at) = RefusedAt (refusal.Limit which) at bytes
+IsErrorCause bytes error.Memory = Unit {0}

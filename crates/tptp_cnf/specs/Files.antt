@@ -14,7 +14,7 @@ pub record IsFile (bytes : List ℕ) (problem : ProblemValue) : Type 0 where
   pub tokens : List PlacedToken
   pub cut : IsCut bytes tokens
   pub file : List WrittenFormula
-  pub written : grammar.IsFile (terminals tokens) file
+  pub written : grammar.IsFileWithinLimits (terminals tokens) file
   pub means : problem ≡ problem_of file
 
 -- the sum of the weights of the clauses

@@ -6,7 +6,7 @@ use Rattle.std.specs.Str.{bytes_eq}
 use Rattle.me_terms.specs.LabelEquality.{same_symbol}
 use Rattle.me_terms.specs.Signatures.{number_of}
 use Rattle.me_terms.specs.Values.{SymbolValue}
-use Rattle.tptp_tokens.specs.Tokens.{text_as}
+use Rattle.tptp_tokens.specs.Tokens.{unquoted_text}
 use Rattle.tptp_tokens.specs.declared.token.TokenKind.{TokenKind}
 use Rattle.tptp_grammar.specs.Terminals.{terminal_as}
 use Rattle.tptp_cnf.specs.Meaning.{symbol}
@@ -24,16 +24,16 @@ met_at entries name = lookup (λ x. bytes_eq name.bytes.now x.bytes.now) entries
 
 -- the symbol of a name whose token is of this kind and has these bytes
 abbrev pub symbol_by : TokenKind → List ℕ → ℕ → SymbolValue
-symbol_by kind text arity = symbol (label_as (terminal_as kind (text_as kind text))) arity
+symbol_by kind text arity = symbol (label_as (terminal_as kind (unquoted_text kind text))) arity
 
 -- The symbol is one of these, and this is its number.
-abbrev pub IsNumber : List SymbolValue → SymbolValue → ℕ → Type 0
-IsNumber symbols s n = (list_any (same_symbol s) symbols ≡ true) × (n ≡ number_of s symbols)
+abbrev pub IsNumberOf : List SymbolValue → SymbolValue → ℕ → Type 0
+IsNumberOf symbols s n = (list_any (same_symbol s) symbols ≡ true) × (n ≡ number_of s symbols)
 
 -- Each name is noted with a symbol that it means, and with its number.
 abbrev pub AreMet : List SymbolValue → Entries → Type 0
-AreMet symbols entries = (name : Name) (m : Met) → met_at entries name ≡ Some m → IsNumber symbols (symbol_by m.kind name.bytes.now m.arity) m.number
+AreMet symbols entries = (name : Name) (m : Met) → met_at entries name ≡ Some m → IsNumberOf symbols (symbol_by m.kind name.bytes.now m.arity) m.number
 
 -- The name is noted with this number.
-abbrev pub IsNoted : Item → ℕ → Entries → Entries → Type 0
-IsNoted i number old new = (name : Name) → met_at new name ≡ (if bytes_eq i.name.text.now name.bytes.now then Some (record { kind = i.name.kind; arity = i.arity; number = number }) else met_at old name)
+abbrev pub IsNameNoted : Item → ℕ → Entries → Entries → Type 0
+IsNameNoted i number old new = (name : Name) → met_at new name ≡ (if bytes_eq i.name.text.now name.bytes.now then Some (record { kind = i.name.kind; arity = i.arity; number = number }) else met_at old name)

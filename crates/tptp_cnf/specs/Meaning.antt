@@ -28,12 +28,12 @@ abbrev pub symbol : LabelValue → ℕ → SymbolValue
 symbol label arity = record { label = label; arity = arity }
 
 -- how many arguments
-abbrev pub count : WrittenTerms → ℕ
-count NoTerms = 0
-count (OneMore t ts) = suc (count ts)
+abbrev pub terms_count : WrittenTerms → ℕ
+terms_count NoTerms = 0
+terms_count (OneMore t ts) = suc (terms_count ts)
 
 abbrev pub name_symbol : Name → WrittenTerms → SymbolValue
-name_symbol name ts = symbol (word (name_text name)) (count ts)
+name_symbol name ts = symbol (word (name_text name)) (terms_count ts)
 
 abbrev pub is_constant : SymbolValue → Bool
 is_constant s = eqb s.arity 0
@@ -79,14 +79,14 @@ abbrev mutual
   terms_functions (OneMore t ts) = term_functions t ++ terms_functions ts
 
 abbrev mutual
-  pub term_variables : WrittenTerm → List (List ℕ)
-  term_variables (Variable text) = text ∷ []
-  term_variables (Distinct text) = []
-  term_variables (Apply name ts) = terms_variables ts
+  pub variables_in_term : WrittenTerm → List (List ℕ)
+  variables_in_term (Variable text) = text ∷ []
+  variables_in_term (Distinct text) = []
+  variables_in_term (Apply name ts) = terms_variables ts
 
   pub terms_variables : WrittenTerms → List (List ℕ)
   terms_variables NoTerms = []
-  terms_variables (OneMore t ts) = term_variables t ++ terms_variables ts
+  terms_variables (OneMore t ts) = variables_in_term t ++ terms_variables ts
 
 abbrev pub atom_predicates : WrittenAtom → List SymbolValue
 atom_predicates (Truth value) = []
@@ -126,13 +126,13 @@ with_symbols known (s ∷ ss) = with_symbols (with_symbol known s) ss
 -- ---- terms, literals and clauses
 
 -- the place at which a text stands first, from 0
-abbrev pub place_of : List ℕ → List (List ℕ) → ℕ
-place_of text texts = position_or_len (bytes_eq text) texts
+abbrev pub text_place : List ℕ → List (List ℕ) → ℕ
+text_place text texts = position_or_len (bytes_eq text) texts
 
 -- a term over these functions and variables
 abbrev mutual
   pub term_of : List SymbolValue → List (List ℕ) → WrittenTerm → TermValue
-  term_of functions variables (Variable text) = Var (place_of text variables)
+  term_of functions variables (Variable text) = Var (text_place text variables)
   term_of functions variables (Distinct text) = App (number_of (symbol (distinct text) 0) functions) Nil
   term_of functions variables (Apply name ts) = App (number_of (name_symbol name ts) functions) (terms_of functions variables ts)
 
@@ -149,12 +149,12 @@ abbrev pub clause_literals : SignatureValue → List (List ℕ) → List Written
 clause_literals signature variables ls = flat_map (λ l. signed_literal signature variables (is_positive l.sign) l.atom) ls
 
 -- the variables of a formula, in the order of first occurrence
-abbrev pub variables_of : WrittenFormula → List (List ℕ)
-variables_of f = with_variables [] (literals_variables (literals_of f))
+abbrev pub variables_in_formula : WrittenFormula → List (List ℕ)
+variables_in_formula f = with_variables [] (literals_variables (literals_of f))
 
 -- the clause of the formula with this number: its literals in order, repeated ones too
 abbrev pub clause_of : SignatureValue → ℕ → WrittenFormula → ClauseValue
-clause_of signature number f = record { number = number; label = label_of f.label; literals = clause_literals signature (variables_of f) (literals_of f) }
+clause_of signature number f = record { number = number; label = label_of f.label; literals = clause_literals signature (variables_in_formula f) (literals_of f) }
 
 -- the clauses of the formulas, the first of which has this number; that of a formula that is left out stays used
 abbrev pub clauses_of : SignatureValue → ℕ → List WrittenFormula → List ClauseValue

@@ -1,11 +1,12 @@
 -- Which problems are written as a file that means them again.
-use Rattle.std.specs.Prelude.{◌≡◌, ◌≤◌, ℕ, ◌+◌, List, [], ◌∷◌, ◌++◌, length, slice_get, option_to_list}
+use Rattle.std.specs.Prelude.{◌≡◌, ◌≤◌, ℕ, ◌+◌, ◌-◌, List, [], ◌∷◌, ◌++◌, length, slice_get, option_to_list}
 use Rattle.std.specs.List.{AllByRecursion, position_or_len, flat_map}
 use Rattle.me_terms.specs.Measures.{literal_depth}
 use Rattle.me_terms.specs.Terms.{TermValue, Var, App, Arguments, Nil, Cons}
 use Rattle.me_terms.specs.Validity.{clause_variables, IsValid}
 use Rattle.me_terms.specs.Values.{SymbolValue, ClauseValue, ProblemValue}
 use Rattle.me_terms.specs.Variables.{first_ones}
+use Rattle.tptp_grammar.specs.declared.limits.TheConstants.{MAX_FORMULAS, MAX_LITERALS, MAX_VARIABLES, MAX_ARGUMENTS, MAX_BRACKETS}
 use Rattle.tptp_cnf.specs.Meaning.{with_symbols, is_constant, with_constant}
 
 -- the numbers of the functions, as often as they stand, each before its arguments
@@ -36,9 +37,9 @@ HasNumbersFrom n (c ∷ cs) = (c.number ≡ n) × HasNumbersFrom (n + 1) cs
 
 -- A clause within the limits of a formula. A bracket is open round the formula, and one round each list of arguments.
 pub record IsWithinLimits (clause : ClauseValue) : Type 0 where
-  pub literals : length clause.literals ≤ 4096
-  pub variables : length (first_ones [] (clause_variables clause.literals)) ≤ 1024
-  pub nesting : AllByRecursion (λ l. literal_depth l ≤ 249) clause.literals
+  pub literals : length clause.literals ≤ MAX_LITERALS
+  pub variables : length (first_ones [] (clause_variables clause.literals)) ≤ MAX_VARIABLES
+  pub nesting : AllByRecursion (λ l. literal_depth l ≤ MAX_BRACKETS - 1) clause.literals
 
 -- A valid problem whose clauses are numbered 1, 2, .., whose symbols are those that occur, by first occurrence, with c0 as the last function where no other is a constant, and that is within the limits of a file.
 pub record IsPlain (problem : ProblemValue) : Type 0 where
@@ -47,7 +48,7 @@ pub record IsPlain (problem : ProblemValue) : Type 0 where
   pub functions : problem.signature.functions ≡ with_constant (with_symbols [] (symbols_at problem.signature.functions (clauses_functions problem.clauses)))
   pub predicates : problem.signature.predicates ≡ with_symbols [] (symbols_at problem.signature.predicates (clauses_predicates problem.clauses))
   pub constant : problem.c0 ≡ position_or_len is_constant problem.signature.functions
-  pub few_clauses : length problem.clauses ≤ 1048576
+  pub few_clauses : length problem.clauses ≤ MAX_FORMULAS
   pub within : AllByRecursion IsWithinLimits problem.clauses
-  pub arguments : AllByRecursion (λ s. s.arity ≤ 64) problem.signature.functions
-  pub predicate_arguments : AllByRecursion (λ s. s.arity ≤ 64) problem.signature.predicates
+  pub arguments : AllByRecursion (λ s. s.arity ≤ MAX_ARGUMENTS) problem.signature.functions
+  pub predicate_arguments : AllByRecursion (λ s. s.arity ≤ MAX_ARGUMENTS) problem.signature.predicates

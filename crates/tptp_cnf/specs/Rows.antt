@@ -1,5 +1,5 @@
 -- The problem as far as it is read: what each token adds to it. Only the private calls of the reader speak of it.
-use Rattle.std.specs.Prelude.{ℕ, zero, suc, ◌+◌, ◌-◌, Bool, true, false, List, [], ◌∷◌, ◌++◌, length, take, drop, codes, Option, Some, None, if◌then◌else◌}
+use Rattle.std.specs.Prelude.{◌<◌, ℕ, zero, suc, ◌+◌, ◌-◌, ◌^◌, Bool, true, false, List, [], ◌∷◌, ◌++◌, length, take, drop, codes, Option, Some, None, if◌then◌else◌}
 use Rattle.std.specs.List.{position_or_len}
 use Rattle.std.specs.Str.{bytes_eq}
 use Rattle.me_terms.specs.Signatures.{with_symbol, number_of}
@@ -13,7 +13,7 @@ use Rattle.tptp_grammar.specs.Machine.{State, step, part_at}
 use Rattle.tptp_grammar.specs.Printed.{Printed}
 use Rattle.tptp_grammar.specs.declared.part.Part.{Part}
 use Rattle.tptp_grammar.specs.declared.part.Part.TheVariants as part
-use Rattle.tptp_cnf.specs.Meaning.{word, distinct, symbol, same_truth, place_of, is_constant, with_constant}
+use Rattle.tptp_cnf.specs.Meaning.{word, distinct, symbol, same_truth, text_place, is_constant, with_constant}
 use Rattle.tptp_cnf.specs.declared.item.Role.{Role}
 use Rattle.tptp_cnf.specs.declared.item.Role.TheVariants as role
 use Rattle.tptp_cnf.specs.declared.item.Node.{Node}
@@ -42,9 +42,9 @@ label_as t = no_label
 abbrev pub symbol_as : ItemValue → SymbolValue
 symbol_as i = symbol (label_as i.terminal) i.arity
 
-abbrev pub text_as : Terminal → List ℕ
-text_as (Variable text) = text
-text_as t = []
+abbrev pub text_of_variable : Terminal → List ℕ
+text_of_variable (Variable text) = text
+text_of_variable t = []
 
 -- what has a number
 pub record Names : Type 0 where
@@ -56,12 +56,12 @@ pub record Names : Type 0 where
 abbrev pub names_of : SignatureValue → Names
 names_of signature = record { functions = signature.functions; predicates = signature.predicates; variables = [] }
 
-abbrev pub signature_of : Names → SignatureValue
-signature_of names = record { functions = names.functions; predicates = names.predicates }
+abbrev pub names_signature : Names → SignatureValue
+names_signature names = record { functions = names.functions; predicates = names.predicates }
 
 abbrev pub with_item_as : Role → Names → ItemValue → Names
 with_item_as role.Function names i = record { functions = with_symbol names.functions (symbol_as i); predicates = names.predicates; variables = names.variables }
-with_item_as role.Variable names i = record { functions = names.functions; predicates = names.predicates; variables = with_variables names.variables (text_as i.terminal ∷ []) }
+with_item_as role.Variable names i = record { functions = names.functions; predicates = names.predicates; variables = with_variables names.variables (text_of_variable i.terminal ∷ []) }
 with_item_as r names i = record { functions = names.functions; predicates = with_symbol names.predicates (symbol_as i); variables = names.variables }
 
 -- one more name
@@ -70,7 +70,7 @@ with_item names i = with_item_as i.role names i
 
 abbrev pub number_as : Role → Names → ItemValue → ℕ
 number_as role.Function names i = number_of (symbol_as i) names.functions
-number_as role.Variable names i = place_of (text_as i.terminal) names.variables
+number_as role.Variable names i = text_place (text_of_variable i.terminal) names.variables
 number_as r names i = number_of (symbol_as i) names.predicates
 
 abbrev pub number_in : Names → ItemValue → ℕ
@@ -126,6 +126,11 @@ pub record Draft : Type 0 where
 abbrev pub empty_draft : Draft
 empty_draft = record { signature = record { functions = []; predicates = [] }; clauses = []; number = 0; label = no_label; is_kept = true; items = []; open_items = [] }
 
+-- One more formula can have a number of 32 bits, and so can each name of the row where it is new.
+pub record IsNumberable (d : Draft) : Type 0 where
+  pub formulas : d.number < 2 ^ 32 - 1
+  pub symbols : length d.signature.functions + length d.signature.predicates + length d.items < 2 ^ 32 - 1
+
 abbrev pub begun : Draft → Draft
 begun d = record { signature = d.signature; clauses = d.clauses; number = d.number + 1; label = d.label; is_kept = true; items = []; open_items = [] }
 
@@ -162,8 +167,8 @@ abbrev pub with_argument : Terminal → Draft → Draft
 with_argument t d = with_name (argument_role t) t d
 
 -- the arguments of the last name come next
-abbrev pub opened : Draft → Draft
-opened d = with_row d.items ((length d.items - 1) ∷ d.open_items) d
+abbrev pub items_opened : Draft → Draft
+items_opened d = with_row d.items ((length d.items - 1) ∷ d.open_items) d
 
 -- the row in which the name at a place has so many arguments
 abbrev pub with_arity : ℕ → ℕ → List ItemValue → List ItemValue
@@ -175,13 +180,13 @@ abbrev pub closed_at : List ℕ → ℕ → Draft → Draft
 closed_at [] arity d = d
 closed_at (place ∷ places) arity d = with_row (with_arity place arity d.items) places d
 
-abbrev pub closed : ℕ → Draft → Draft
-closed arity d = closed_at d.open_items arity d
+abbrev pub items_closed : ℕ → Draft → Draft
+items_closed arity d = closed_at d.open_items arity d
 
 -- the names become a clause
 abbrev pub with_clause : Draft → Draft
 with_clause d = record {
-  signature = signature_of (names_after (names_of d.signature) d.items);
+  signature = names_signature (names_after (names_of d.signature) d.items);
   clauses = d.clauses ++ (record { number = d.number; label = d.label; literals = (built (numbered (names_of d.signature) d.items)).literals }) ∷ [];
   number = d.number;
   label = no_label;
@@ -200,8 +205,8 @@ fed d part.Label t = labelled (label_as t) d
 fed d part.Positive t = with_atom true t d
 fed d part.Atom t = with_atom false t d
 fed d (part.Argument n) t = with_argument t d
-fed d part.OpenArguments t = opened d
-fed d (part.CloseArguments n) t = closed n d
+fed d part.OpenArguments t = items_opened d
+fed d (part.CloseArguments n) t = items_closed n d
 fed d part.End t = ended d
 fed d p t = d
 

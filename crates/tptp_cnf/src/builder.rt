@@ -2,7 +2,7 @@
 //!
 //! The names of a formula are kept until its end. Then they are numbered and made a clause, unless the
 //! formula is left out. Where no kept clause has a constant, `c0` is added at the end.
-ghost use Rattle.std.specs.Prelude.{◌≡◌, [], ◌∷◌, ◌++◌, true, false, slice_get, OnOk, IfOk, IfSome, IfNone};
+ghost use Rattle.std.specs.Prelude.{◌≡◌, ◌-◌, ◌<◌, ◌^◌, [], ◌∷◌, ◌++◌, true, false, length, slice_get, OnOk, IfOk, IfSome, IfNone};
 ghost use Rattle.std.specs.List.{list_any, position_or_len};
 ghost use Rattle.tptp_grammar.specs.Views.{terminal_of};
 ghost use Rattle.tptp_cnf.specs.Meaning.{same_truth, is_constant, with_constant, c0_symbol as c0_value};
@@ -10,7 +10,7 @@ ghost use Rattle.tptp_cnf.specs.Rows as rows;
 
 use crate::build::built;
 use crate::item::{Item, Node, Role};
-use crate::numbers::{function, label, number_all};
+use crate::numbers::{label, number_all};
 use crate::symbols::Symbols;
 use indexmap::IndexSet;
 use me_terms::{Clause, Clauses, Form, Label, Literal, Problem, Signature, Symbol, Term, Text};
@@ -85,27 +85,14 @@ fn first_constant(signature: &Signature) -> Option<u32>
     None
 }
 
-/// Puts a byte at the end.
-fn push_byte(text: &mut Text, byte: u8) -> Result<(), AllocError>
-    ensures { OnOk result (text.new.items ≡ text.old.items ++ byte ∷ []) }
-{
-    match text.push(byte) {
-        Ok(()) => Ok(()),
-        Err(_) => Err(AllocError),
-    }
-}
-
 /// The symbol of the constant that is added where there is none.
 fn c0_symbol(alloc: Global) -> Result<Symbol, AllocError>
     ensures { IfOk result (λ symbol. symbol ≡ c0_value) }
 {
-    let mut text = Text::new(alloc);
-    push_byte(&mut text, b'c')?;
-    push_byte(&mut text, b'0')?;
     Ok(Symbol {
         label: Label {
             form: Form::Word,
-            text,
+            text: Text::from_slice(b"c0", alloc)?,
         },
         arity: 0,
     })
@@ -113,16 +100,18 @@ fn c0_symbol(alloc: Global) -> Result<Symbol, AllocError>
 
 /// The number of the first constant. Where there is none, `c0` is added.
 fn constant(alloc: Global, signature: &mut Signature) -> Result<u32, AllocError>
+    requires { length signature.old.functions < 2 ^ 32 - 1 }
     ensures number { IfOk result (λ n. n ≡ position_or_len is_constant (with_constant signature.old.functions)) }
     ensures added { OnOk result (signature.new ≡ record signature.old { functions = with_constant signature.old.functions }) }
 {
     match first_constant(signature) {
         Some(number) => Ok(number),
-        None => Ok(function(signature, c0_symbol(alloc)?)?),
+        None => signature.add_fun(c0_symbol(alloc)?),
     }
 }
 
 impl<'a> Builder<'a> {
+    ghost use Rattle.tptp_cnf.specs.Rows.{IsNumberable};
     ghost use Rattle.tptp_cnf.specs.Views.{draft};
 
     /// Nothing is read so far.
@@ -147,14 +136,14 @@ impl<'a> Builder<'a> {
     }
 
     /// A formula begins.
-    fn begin(&mut self) -> Result<(), AllocError>
-        ensures { OnOk result (draft self.new ≡ rows.begun (draft self.old)) }
+    fn begin(&mut self)
+        requires { IsNumberable (draft self.old) }
+        ensures { draft self.new ≡ rows.begun (draft self.old) }
     {
-        self.number = self.number.checked_add(1).ok_or(AllocError)?;
+        self.number += 1;
         self.is_kept = true;
         self.items.clear();
         self.open.clear();
-        Ok(())
     }
 
     /// Puts a name into the row.
@@ -200,7 +189,7 @@ impl<'a> Builder<'a> {
 
     /// The arguments of the last name come next.
     fn open_arguments(&mut self) -> Result<(), AllocError>
-        ensures { OnOk result (draft self.new ≡ rows.opened (draft self.old)) }
+        ensures { OnOk result (draft self.new ≡ rows.items_opened (draft self.old)) }
     {
         self.open.push(self.items.len().saturating_sub(1))?;
         Ok(())
@@ -208,7 +197,7 @@ impl<'a> Builder<'a> {
 
     /// The innermost name whose arguments are being read has so many.
     fn close_arguments(&mut self, count: u32)
-        ensures { draft self.new ≡ rows.closed count (draft self.old) }
+        ensures { draft self.new ≡ rows.items_closed count (draft self.old) }
     {
         if let Some(place) = self.open.pop() {
             if place < self.items.len() {
@@ -219,6 +208,7 @@ impl<'a> Builder<'a> {
 
     /// The names so far become a clause.
     fn add_clause(&mut self, alloc: Global) -> Result<(), AllocError>
+        requires { IsNumberable (draft self.old) }
         ensures { OnOk result (draft self.new ≡ rows.with_clause (draft self.old)) }
     {
         let Workspace {
@@ -243,6 +233,7 @@ impl<'a> Builder<'a> {
 
     /// The formula ends.
     fn end(&mut self, alloc: Global) -> Result<(), AllocError>
+        requires { IsNumberable (draft self.old) }
         ensures { OnOk result (draft self.new ≡ rows.ended (draft self.old)) }
     {
         if self.is_kept {
@@ -258,10 +249,14 @@ impl<'a> Builder<'a> {
         part: Part,
         token: &Token<'a>,
     ) -> Result<(), AllocError>
+        requires { IsNumberable (draft self.old) }
         ensures { OnOk result (draft self.new ≡ rows.fed (draft self.old) part (terminal_of token.now)) }
     {
         match part {
-            Part::Formula => self.begin(),
+            Part::Formula => {
+                self.begin();
+                Ok(())
+            }
             Part::Label => {
                 self.label = label(alloc, token)?;
                 Ok(())
@@ -281,6 +276,7 @@ impl<'a> Builder<'a> {
 
     /// The problem of the clauses.
     pub(crate) fn finish(self, alloc: Global) -> Result<Problem, AllocError>
+        requires { IsNumberable (draft self) }
         ensures { IfOk result (λ problem. problem ≡ rows.finished (draft self.entry)) }
     {
         let Builder {

@@ -2,18 +2,17 @@
 //!
 //! Functions and predicates are numbered over the whole file, each symbol by its label and its number of
 //! arguments, and variables over one formula.
-ghost use Rattle.std.specs.Prelude.{◌≡◌, [], ◌∷◌, map, OnOk, OnErr, IfOk};
+ghost use Rattle.std.specs.Prelude.{◌≡◌, ◌+◌, ◌-◌, ◌<◌, ◌^◌, [], ◌∷◌, length, map, OnOk, IfOk};
 ghost use Rattle.tptp_grammar.specs.Views.{terminal_of};
 ghost use Rattle.tptp_grammar.specs.Limits.{with_variables};
-ghost use Rattle.me_terms.specs.Signatures.{with_symbol, number_of};
-ghost use Rattle.tptp_cnf.specs.Meaning.{place_of};
-ghost use Rattle.tptp_cnf.specs.Rows.{label_as, symbol_as, text_as, number_in, with_item, names_of, signature_of, names_after, numbered as numbers_of};
+ghost use Rattle.tptp_cnf.specs.Meaning.{text_place};
+ghost use Rattle.tptp_cnf.specs.Rows.{label_as, symbol_as, text_of_variable, number_in, with_item, names_of, names_signature, names_after, numbered as numbers_of};
 ghost use Rattle.tptp_cnf.specs.Views.{item_value, names};
 
 use crate::item::{Item, Node, Role};
 use crate::symbols::Symbols;
 use indexmap::IndexSet;
-use me_terms::{Form, Label, Signature, Symbol, Text};
+use me_terms::{Form, Label, Symbol, Text};
 use std::alloc::{AllocError, Global};
 use tptp_tokens::{Token, TokenKind, text_of};
 
@@ -48,33 +47,9 @@ pub(crate) fn symbol(alloc: Global, item: &Item<'_>) -> Result<Symbol, AllocErro
     })
 }
 
-/// The number of the function, which is added where it is new.
-pub(crate) fn function(signature: &mut Signature, symbol: Symbol) -> Result<u32, AllocError>
-    ensures number { IfOk result (λ n. n ≡ number_of symbol signature.new.functions) }
-    ensures added { OnOk result (signature.new ≡ record signature.old { functions = with_symbol signature.old.functions symbol }) }
-    ensures err { OnErr result (signature.new ≡ signature.old) }
-{
-    if signature.fun_count() == u32::MAX {
-        return Err(AllocError);
-    }
-    signature.add_fun(symbol)
-}
-
-/// The number of the predicate, which is added where it is new.
-pub(crate) fn predicate(signature: &mut Signature, symbol: Symbol) -> Result<u32, AllocError>
-    ensures number { IfOk result (λ n. n ≡ number_of symbol signature.new.predicates) }
-    ensures added { OnOk result (signature.new ≡ record signature.old { predicates = with_symbol signature.old.predicates symbol }) }
-    ensures err { OnErr result (signature.new ≡ signature.old) }
-{
-    if signature.pred_count() == u32::MAX {
-        return Err(AllocError);
-    }
-    signature.add_pred(symbol)
-}
-
 /// The text of a variable.
 fn variable_text<'a>(token: &Token<'a>) -> &'a [u8]
-    ensures { result.now ≡ text_as (terminal_of token.now) }
+    ensures { result.now ≡ text_of_variable (terminal_of token.now) }
 {
     match token.kind {
         TokenKind::Variable => token.text,
@@ -84,17 +59,18 @@ fn variable_text<'a>(token: &Token<'a>) -> &'a [u8]
 
 /// The number of the variable, which is added where it is new.
 fn variable<'a>(variables: &mut IndexSet<&'a [u8]>, text: &'a [u8]) -> Result<u32, AllocError>
-    ensures number { IfOk result (λ n. n ≡ place_of text.now (map (λ x. x.now) variables.new.keys)) }
+    requires { length variables.old.keys < 2 ^ 32 - 1 }
+    ensures number { IfOk result (λ n. n ≡ text_place text.now (map (λ x. x.now) variables.new.keys)) }
     ensures added { OnOk result (map (λ x. x.now) variables.new.keys ≡ with_variables (map (λ x. x.now) variables.old.keys) (text.now ∷ [])) }
 {
     match variables.insert_full(text) {
-        Ok((number, _)) if number <= u32::MAX as usize => Ok(number as u32),
-        _ => Err(AllocError),
+        Ok((number, _)) => Ok(number as u32),
+        Err(_) => Err(AllocError),
     }
 }
 
 /// Takes all variables out.
-#[tactic(auto, using(crate::proofs::Variables::emptied))]
+#[tactic(auto, using(tptp_grammar::proofs::Variables::emptied))]
 fn clear(variables: &mut IndexSet<&[u8]>)
     ensures { map (λ x. x.now) variables.new.keys ≡ [] }
 {
@@ -110,6 +86,9 @@ fn number<'a>(
     variables: &mut IndexSet<&'a [u8]>,
     item: &Item<'a>,
 ) -> Result<u32, AllocError>
+    requires functions { length symbols.old.functions < 2 ^ 32 - 1 }
+    requires predicates { length symbols.old.predicates < 2 ^ 32 - 1 }
+    requires variables { length variables.old.keys < 2 ^ 32 - 1 }
     ensures number { IfOk result (λ n. n ≡ number_in (names symbols.new (map (λ x. x.now) variables.new.keys)) (item_value item.now)) }
     ensures added { OnOk result (names symbols.new (map (λ x. x.now) variables.new.keys) ≡ with_item (names symbols.old (map (λ x. x.now) variables.old.keys)) (item_value item.now)) }
 {
@@ -129,8 +108,9 @@ pub(crate) fn number_all<'a>(
     nodes: &mut Vec<Node>,
     items: &[Item<'a>],
 ) -> Result<(), AllocError>
+    requires { length symbols.old.functions + length symbols.old.predicates + length items.now < 2 ^ 32 - 1 }
     ensures nodes { OnOk result (nodes.new.items ≡ numbers_of (names_of symbols.old) (map item_value items.now)) }
-    ensures added { OnOk result (symbols.new ≡ signature_of (names_after (names_of symbols.old) (map item_value items.now))) }
+    ensures added { OnOk result (symbols.new ≡ names_signature (names_after (names_of symbols.old) (map item_value items.now))) }
 {
     clear(variables);
     nodes.clear();

@@ -2,15 +2,15 @@
 //!
 //! A signature finds a symbol by its text, which is copied for it. So the number of a symbol is also kept by
 //! the bytes of its token, and a name that was met before is found there without memory.
-ghost use Rattle.std.specs.Prelude.{◌≡◌, [], List, OnErr, OnOk, IfOk, IfSome};
+ghost use Rattle.std.specs.Prelude.{◌≡◌, ◌-◌, ◌<◌, ◌^◌, [], List, length, OnErr, OnOk, IfOk, IfSome};
 ghost use Rattle.me_terms.specs.Signatures.{with_symbol, number_of};
 ghost use Rattle.me_terms.specs.Values.{SymbolValue};
 ghost use Rattle.tptp_cnf.specs.Rows.{symbol_as};
 ghost use Rattle.tptp_cnf.specs.Views.{item_value};
-ghost use Rattle.tptp_cnf.specs.Lookup.{AreMet, IsNumber, IsNoted};
+ghost use Rattle.tptp_cnf.specs.Lookup.{AreMet, IsNumberOf, IsNameNoted};
 
 use crate::item::Item;
-use crate::numbers::{function, predicate, symbol};
+use crate::numbers::symbol;
 use indexmap::IndexMap;
 use me_terms::Signature;
 use std::alloc::{AllocError, Global};
@@ -98,7 +98,7 @@ impl<'a> Model for Symbols<'a> {
 
 /// The number of the name, if its text was last met as its symbol.
 fn found(met: &IndexMap<Name<'_>, Met>, item: &Item<'_>) -> Option<u32>
-    ensures { IfSome result (λ n. (symbols : List SymbolValue) → AreMet symbols met.now.entries → IsNumber symbols (symbol_as (item_value item.now)) n) }
+    ensures { IfSome result (λ n. (symbols : List SymbolValue) → AreMet symbols met.now.entries → IsNumberOf symbols (symbol_as (item_value item.now)) n) }
 {
     match met.get(&name_of(item)) {
         Some(last) if last.kind == item.name.kind && last.arity == item.arity => Some(last.number),
@@ -112,7 +112,7 @@ fn note<'a>(
     item: &Item<'a>,
     number: u32,
 ) -> Result<(), AllocError>
-    ensures ok { OnOk result (IsNoted item.now number met.old.entries met.new.entries) }
+    ensures ok { OnOk result (IsNameNoted item.now number met.old.entries met.new.entries) }
     ensures err { OnErr result (met.new.entries ≡ met.old.entries) }
 {
     let last = Met {
@@ -147,26 +147,28 @@ impl<'a> Symbols<'a> {
 
     /// The number of the function of this name, which is added where it is new.
     pub(crate) fn function(&mut self, alloc: Global, item: &Item<'a>) -> Result<u32, AllocError>
+        requires { length self.old.functions < 2 ^ 32 - 1 }
         ensures number { IfOk result (λ n. n ≡ number_of (symbol_as (item_value item.now)) self.new.functions) }
         ensures added { OnOk result (self.new ≡ record self.old { functions = with_symbol self.old.functions (symbol_as (item_value item.now)) }) }
     {
         if let Some(number) = found(&self.functions, item) {
             return Ok(number);
         }
-        let number = function(&mut self.signature, symbol(alloc, item)?)?;
+        let number = self.signature.add_fun(symbol(alloc, item)?)?;
         note(&mut self.functions, item, number)?;
         Ok(number)
     }
 
     /// The number of the predicate of this name, which is added where it is new.
     pub(crate) fn predicate(&mut self, alloc: Global, item: &Item<'a>) -> Result<u32, AllocError>
+        requires { length self.old.predicates < 2 ^ 32 - 1 }
         ensures number { IfOk result (λ n. n ≡ number_of (symbol_as (item_value item.now)) self.new.predicates) }
         ensures added { OnOk result (self.new ≡ record self.old { predicates = with_symbol self.old.predicates (symbol_as (item_value item.now)) }) }
     {
         if let Some(number) = found(&self.predicates, item) {
             return Ok(number);
         }
-        let number = predicate(&mut self.signature, symbol(alloc, item)?)?;
+        let number = self.signature.add_pred(symbol(alloc, item)?)?;
         note(&mut self.predicates, item, number)?;
         Ok(number)
     }

@@ -5,7 +5,7 @@ use Rattle.std.proofs.lemmas.Slice.Eq.{bytes_eq-Decides}
 use Rattle.tptp_grammar.specs.Terminals.{Terminal, LowerWord, DollarWord, Digits, Number, OpenRound, CloseRound, Tilde}
 use Rattle.tptp_grammar.specs.declared.part.Part.{Part}
 use Rattle.tptp_grammar.specs.Limits.{begins_formula}
-use Rattle.tptp_grammar.specs.Refusals.{begins_role, begins_atom, begins_argument, MayBegin, MayEndAtom, is_language, is_include, is_conjecture, is_lower_word, is_equality, is_variable_or_distinct, is_number, is_dollar_word, IsInappropriate}
+use Rattle.tptp_grammar.specs.Refusals.{begins_role, begins_atom, begins_argument, MayBegin, MayEndAtom, is_language, is_include, is_conjecture, is_lower_word_token, is_equality, is_variable_or_distinct, is_number, is_dollar_word, IsInappropriate}
 use Rattle.tptp_grammar.specs.Machine.{State, Between, LabelEnd, FormulaStart, LiteralStart, Negated, AtomStart, ArgumentStart, Named, Done, run_on, part_at, literal_part, formula_part, negated_part, done_part, named_part}
 use Rattle.tptp_grammar.specs.Readings.{formula_kind, role_kind, argument_kind, atom_kind, atom_end_kind, kind_at}
 use Rattle.tptp_grammar.specs.declared.refusal.What.{What}
@@ -28,7 +28,7 @@ formula_cause true b ts t w h k m e = as_what ts t what.Language w e (h, m)
 formula_cause false true ts t w h k m e = as_what ts t what.Include w e (k, m)
 formula_cause false false ts t w h k m e = absurd cc
 
-role_cause : (a b : Bool) (ts : List Terminal) (t : Terminal) (w : What) → is_conjecture t ≡ a → is_lower_word t ≡ b → MayBegin begins_role ts
+role_cause : (a b : Bool) (ts : List Terminal) (t : Terminal) (w : What) → is_conjecture t ≡ a → is_lower_word_token t ≡ b → MayBegin begins_role ts
     → (if a then Inappropriate what.Conjecture else (if b then Inappropriate what.Role else Syntax)) ≡ Inappropriate w → IsInappropriate w ts t
 role_cause true b ts t w h k m e = as_what ts t what.Conjecture w e (h, m)
 role_cause false true ts t w h k m e = as_what ts t what.Role w e (k, h, m)
@@ -58,7 +58,7 @@ pub record Knows (ts : List Terminal) (s : State) : Type 0 where
   pub end : ends_atom s ≡ true → MayEndAtom ts
 
 pub cause : (s : State) (ts : List Terminal) (t : Terminal) (w : What) → Knows ts s → kind_at s t ≡ Inappropriate w → IsInappropriate w ts t
-cause LabelEnd ts t w k e = role_cause (is_conjecture t) (is_lower_word t) ts t w refl refl (k.begin begins_role (record { token = _; others = _; next = refl; begins = refl })) e
+cause LabelEnd ts t w k e = role_cause (is_conjecture t) (is_lower_word_token t) ts t w refl refl (k.begin begins_role (record { token = _; others = _; next = refl; begins = refl })) e
 cause (FormulaStart n) ts t w k e = atom_cause (is_variable_or_distinct t) ts t w refl (k.begin begins_atom (record { token = _; others = _; next = refl; begins = refl })) e
 cause (LiteralStart n) ts t w k e = atom_cause (is_variable_or_distinct t) ts t w refl (k.begin begins_atom (record { token = _; others = _; next = refl; begins = refl })) e
 cause (Negated n) ts t w k e = atom_cause (is_variable_or_distinct t) ts t w refl (k.begin begins_atom (record { token = _; others = _; next = refl; begins = refl })) e
@@ -171,10 +171,10 @@ kind_of what.Language s ts t run h =
 kind_of what.Include s ts t run h = let b = state_begins begins_formula ts s run h.1 in formula_state s b.0 t b.1 ∙ include_kind t h.0
 kind_of what.Conjecture s ts t run h =
     let b = state_begins begins_role ts s run h.1 in
-    role_state s b.0 t b.1 ∙ ap (λ (x : Bool). if x then Inappropriate what.Conjecture else (if is_lower_word t then Inappropriate what.Role else Syntax)) h.0
+    role_state s b.0 t b.1 ∙ ap (λ (x : Bool). if x then Inappropriate what.Conjecture else (if is_lower_word_token t then Inappropriate what.Role else Syntax)) h.0
 kind_of what.Role s ts t run h =
     let b = state_begins begins_role ts s run h.2 in
-    role_state s b.0 t b.1 ∙ ap (λ (x : Bool). if x then Inappropriate what.Conjecture else (if is_lower_word t then Inappropriate what.Role else Syntax)) h.1
+    role_state s b.0 t b.1 ∙ ap (λ (x : Bool). if x then Inappropriate what.Conjecture else (if is_lower_word_token t then Inappropriate what.Role else Syntax)) h.1
     ∙ ap (λ (x : Bool). if x then Inappropriate what.Role else Syntax) h.0
 kind_of what.Equality s ts t run (inl h) =
     atom_end_state s t (state_ends ts s run h.1) ∙ ap (λ (x : Bool). if x then Inappropriate what.Equality else Syntax) h.0

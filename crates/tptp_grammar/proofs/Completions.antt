@@ -1,7 +1,7 @@
 -- From each state some tokens lead to the end of a file.
 use Rattle.std.proofs.Common.{◌≡◌, ℕ, zero, suc, Bool, true, false, List, [], ◌∷◌, Some, codes, refl}
 use Rattle.tptp_grammar.specs.Terminals.{Terminal, LowerWord, OpenRound, CloseRound, CloseSquare, Comma, Dot}
-use Rattle.tptp_grammar.specs.Machine.{State, Between, Begun, Opened, Labelled, LabelEnd, Roled, FormulaStart, LiteralStart, Negated, AtomStart, ArgumentStart, Named, Done, LiteralEnd, FormulaEnd, NotesStart, Notes, Closed, closed, run_on}
+use Rattle.tptp_grammar.specs.Machine.{State, Between, Begun, Opened, Labelled, LabelEnd, Roled, FormulaStart, LiteralStart, Negated, AtomStart, ArgumentStart, Named, Done, LiteralEnd, FormulaEnd, NotesStart, Notes, Closed, after_bracket, run_on}
 
 abbrev pub word : Terminal
 word = LowerWord (codes "a")
@@ -50,7 +50,7 @@ completion NotesStart = word ∷ notes_completion []
 completion (Notes bs) = notes_completion bs
 completion Closed = Dot ∷ []
 
-bracket_completes : (k : ℕ) → run_on (Some (closed k)) (behind_bracket k) ≡ Some Between
+bracket_completes : (k : ℕ) → run_on (Some (after_bracket k)) (behind_bracket k) ≡ Some Between
 bracket_completes zero = refl
 bracket_completes (suc k) = bracket_completes k
 

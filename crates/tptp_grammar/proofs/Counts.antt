@@ -1,13 +1,14 @@
 -- What the machine counts is what stands in the tokens so far.
+use Rattle.tptp_grammar.specs.declared.limits.TheConstants.{MAX_FORMULAS, MAX_LITERALS, MAX_VARIABLES, MAX_BRACKETS}
 use Rattle.std.proofs.Common.{◌≡◌, ℕ, zero, suc, ◌+◌, Bool, true, false, cond, List, [], ◌∷◌, ◌++◌, length, Option, Some, None, refl, sym, ap, subst, ◌∙◌, arith}
-use Rattle.std.specs.Prelude.{◌&&◌, nat_le}
+use Rattle.std.specs.Prelude.{◌&&◌, nat_le, nat_lt}
 use Rattle.std.specs.List.{count_by}
 use Rattle.std.proofs.lemmas.List.Sums.{sum_by_push}
 use Rattle.tptp_grammar.specs.Terminals.{Terminal, LowerWord, SingleQuoted, Variable, Distinct, DollarWord, Digits, OpenRound, CloseRound, OpenSquare, CloseSquare, Comma, Dot, Bar, Tilde, Bad, is_role}
 use Rattle.tptp_grammar.specs.Printed.{Printed}
 use Rattle.tptp_grammar.specs.declared.part.Part.{Part}
-use Rattle.tptp_grammar.specs.Limits.{begins_formula, begins_literal, opens, closes, variable_as, with_variables, formulas_in, open_in, of_formula, literals_in, variables_of, variables_in, passes}
-use Rattle.tptp_grammar.specs.Machine.{State, Between, Begun, Opened, Labelled, LabelEnd, Roled, FormulaStart, LiteralStart, Negated, AtomStart, ArgumentStart, Named, Done, LiteralEnd, FormulaEnd, NotesStart, Notes, Closed, closed, step, step_atom, step_argument, step_done, step_named, step_literal_end, step_formula_end, step_notes, step_notes_start, step_between, step_label_end, step_literal_start, step_formula_start, step_negated, part_at, bit, open_brackets, is_truth}
+use Rattle.tptp_grammar.specs.Limits.{begins_formula, begins_literal, opens, closes, variable_as, with_variables, formulas_in, open_in, of_formula, literals_in, variables_met, variables_in, passes}
+use Rattle.tptp_grammar.specs.Machine.{State, Between, Begun, Opened, Labelled, LabelEnd, Roled, FormulaStart, LiteralStart, Negated, AtomStart, ArgumentStart, Named, Done, LiteralEnd, FormulaEnd, NotesStart, Notes, Closed, after_bracket, step, step_atom, step_argument, step_done, step_named, step_literal_end, step_formula_end, step_notes, step_notes_start, step_between, step_label_end, step_literal_start, step_formula_start, step_negated, part_at, open_if, open_brackets, is_truth}
 use Rattle.tptp_grammar.specs.Readings.{Tally, Reading, counted, passes_at}
 use Rattle.tptp_grammar.specs.declared.refusal.Which.{Which}
 use Rattle.tptp_grammar.specs.declared.refusal.Which.TheVariants.{Clauses, Literals, Arguments, Variables, Nesting}
@@ -17,9 +18,9 @@ use Rattle.tptp_grammar.specs.declared.refusal.Which.TheVariants.{Clauses, Liter
 -- A token that opens a bracket adds one, and one that closes takes one away.
 abbrev Balanced : ℕ → Terminal → Option State → Type 0
 Balanced n t None = Unit {0}
-Balanced n t (Some u) = open_brackets u + bit (closes t) ≡ n + bit (opens t)
+Balanced n t (Some u) = open_brackets u + open_if (closes t) ≡ n + open_if (opens t)
 
-closed_balanced : (k : ℕ) → open_brackets (closed k) + 1 ≡ suc k + 0
+closed_balanced : (k : ℕ) → open_brackets (after_bracket k) + 1 ≡ suc k + 0
 closed_balanced zero = refl
 closed_balanced (suc k) = omega arith
 
@@ -37,7 +38,7 @@ formula_end_balanced (suc k) Comma = tt
 formula_end_balanced k t = tt
 
 abbrev places : List ℕ → Bool → ℕ → ℕ
-places ns b k = length ns + bit b + suc k
+places ns b k = length ns + open_if b + suc k
 
 chosen_balanced : (c : Bool) (n : ℕ) (t : Terminal) (u : State) → Balanced n t (Some u) → Balanced n t (cond c (Some u) None)
 chosen_balanced true n t u h = h
@@ -59,14 +60,14 @@ named_balanced : (ns : List ℕ) (b : Bool) (k : ℕ) (t : Terminal) → Balance
 named_balanced ns b k OpenRound = omega arith
 named_balanced ns b k t = done_balanced ns b k t
 
-argument_balanced : (n : ℕ) (ns : List ℕ) (b : Bool) (k : ℕ) (t : Terminal) → Balanced (suc (length ns) + bit b + suc k) t (step_argument (n ∷ ns) b k t)
+argument_balanced : (n : ℕ) (ns : List ℕ) (b : Bool) (k : ℕ) (t : Terminal) → Balanced (suc (length ns) + open_if b + suc k) t (step_argument (n ∷ ns) b k t)
 argument_balanced n ns b k (LowerWord text) = omega arith
 argument_balanced n ns b k (SingleQuoted text) = omega arith
 argument_balanced n ns b k (Variable text) = omega arith
 argument_balanced n ns b k (Distinct text) = omega arith
 argument_balanced n ns b k t = tt
 
-atom_balanced : (b : Bool) (k m : ℕ) (t : Terminal) → m ≡ bit b + suc k → Balanced m t (step_atom b k t)
+atom_balanced : (b : Bool) (k m : ℕ) (t : Terminal) → m ≡ open_if b + suc k → Balanced m t (step_atom b k t)
 atom_balanced b k m (LowerWord text) e = omega arith
 atom_balanced b k m (SingleQuoted text) e = omega arith
 atom_balanced b k m (DollarWord text) e = chosen_balanced (is_truth text) m (DollarWord text) (Done [] b k) (omega arith)
@@ -153,24 +154,24 @@ balanced Closed t = line_balanced t
 
 -- ---- counts
 
-bit_is : (b : Bool) → cond b 1 0 ≡ bit b
+bit_is : (b : Bool) → cond b 1 0 ≡ open_if b
 bit_is true = refl
 bit_is false = refl
 
-count_on : (q : Printed → Bool) (xs : List Printed) (p : Printed) → count_by q (xs ++ p ∷ []) ≡ count_by q xs + bit (q p)
+count_on : (q : Printed → Bool) (xs : List Printed) (p : Printed) → count_by q (xs ++ p ∷ []) ≡ count_by q xs + open_if (q p)
 count_on q xs p = sum_by_push (λ (x : Printed). cond (q x) 1 0) xs p ∙ ap (λ (n : ℕ). count_by q xs + n) (bit_is (q p))
 
 by_first : (b c : Bool) (xs ys zs ws : List Printed) (p : Printed) → xs ≡ cond c [] (zs ++ p ∷ []) → ys ≡ cond c [] (ws ++ p ∷ []) → cond b xs ys ≡ cond c [] (cond b zs ws ++ p ∷ [])
 by_first true c xs ys zs ws p e f = e
 by_first false c xs ys zs ws p e f = f
 
-of_formula_on : (acc xs : List Printed) (p : Printed) → of_formula acc (xs ++ p ∷ []) ≡ cond (begins_formula p.part) [] (of_formula acc xs ++ p ∷ [])
+pub of_formula_on : (acc xs : List Printed) (p : Printed) → of_formula acc (xs ++ p ∷ []) ≡ cond (begins_formula p.part) [] (of_formula acc xs ++ p ∷ [])
 of_formula_on acc [] p = refl
 of_formula_on acc (x ∷ xs) p =
     by_first (begins_formula x.part) (begins_formula p.part) (of_formula [] (xs ++ p ∷ [])) (of_formula (acc ++ x ∷ []) (xs ++ p ∷ [])) (of_formula [] xs) (of_formula (acc ++ x ∷ []) xs) p
     (of_formula_on [] xs p) (of_formula_on (acc ++ x ∷ []) xs p)
 
-variables_on : (known : List (List ℕ)) (xs : List Printed) (p : Printed) → variables_of known (xs ++ p ∷ []) ≡ with_variables (variables_of known xs) (variable_as p.part p.terminal)
+pub variables_on : (known : List (List ℕ)) (xs : List Printed) (p : Printed) → variables_met known (xs ++ p ∷ []) ≡ with_variables (variables_met known xs) (variable_as p.part p.terminal)
 variables_on known [] p = refl
 variables_on known (x ∷ xs) p = variables_on (with_variables known (variable_as x.part x.terminal)) xs p
 
@@ -187,22 +188,22 @@ behind r u p = record { state = u; tally = counted p.part p.terminal r.tally }
 literals_by : (b : Bool) (part : Part) (t : Terminal) (tally : Tally) (n : ℕ) (xs : List Printed) (p : Printed) → p.part ≡ part → begins_formula part ≡ b → tally.literals ≡ count_by (λ q. begins_literal q.part) xs
     → (counted part t tally).literals ≡ count_by (λ q. begins_literal q.part) (cond b [] (xs ++ p ∷ []))
 literals_by true part t tally n xs p same e h = rw e refl
-literals_by false part t tally n xs p same e h = rw e (let k = count_on (λ q. begins_literal q.part) xs p in let j : bit (begins_literal p.part) ≡ bit (begins_literal part) = ap (λ (x : Part). bit (begins_literal x)) same in omega arith)
+literals_by false part t tally n xs p same e h = rw e (let k = count_on (λ q. begins_literal q.part) xs p in let j : open_if (begins_literal p.part) ≡ open_if (begins_literal part) = ap (λ (x : Part). open_if (begins_literal x)) same in omega arith)
 
-variables_by : (b : Bool) (part : Part) (t : Terminal) (tally : Tally) (xs : List Printed) (p : Printed) → p.part ≡ part → p.terminal ≡ t → begins_formula part ≡ b → tally.variables ≡ variables_of [] xs
-    → (counted part t tally).variables ≡ variables_of [] (cond b [] (xs ++ p ∷ []))
+variables_by : (b : Bool) (part : Part) (t : Terminal) (tally : Tally) (xs : List Printed) (p : Printed) → p.part ≡ part → p.terminal ≡ t → begins_formula part ≡ b → tally.variables ≡ variables_met [] xs
+    → (counted part t tally).variables ≡ variables_met [] (cond b [] (xs ++ p ∷ []))
 variables_by true part t tally xs p same text e h = rw e refl
 variables_by false part t tally xs p same text e h =
     rw e (ap (λ (x : List (List ℕ)). with_variables x (variable_as part t)) h
-    ∙ ap (λ (x : Part). with_variables (variables_of [] xs) (variable_as x t)) (sym same)
-    ∙ ap (λ (x : Terminal). with_variables (variables_of [] xs) (variable_as p.part x)) (sym text)
+    ∙ ap (λ (x : Part). with_variables (variables_met [] xs) (variable_as x t)) (sym same)
+    ∙ ap (λ (x : Terminal). with_variables (variables_met [] xs) (variable_as p.part x)) (sym text)
     ∙ sym (variables_on [] xs p))
 
-formulas_by : (b : Bool) (part : Part) (t : Terminal) (tally : Tally) → begins_formula part ≡ b → (counted part t tally).formulas ≡ tally.formulas + bit b
+formulas_by : (b : Bool) (part : Part) (t : Terminal) (tally : Tally) → begins_formula part ≡ b → (counted part t tally).formulas ≡ tally.formulas + open_if b
 formulas_by true part t tally e = rw e (omega arith)
 formulas_by false part t tally e = rw e (omega arith)
 
-one_more_bracket : (s : State) (t : Terminal) (u : State) → step s t ≡ Some u → open_brackets u + bit (closes t) ≡ open_brackets s + bit (opens t)
+one_more_bracket : (s : State) (t : Terminal) (u : State) → step s t ≡ Some u → open_brackets u + open_if (closes t) ≡ open_brackets s + open_if (opens t)
 one_more_bracket s t u e = subst (Balanced (open_brackets s) t) e (balanced s t)
 
 pub counted_on : (before : List Printed) (r : Reading) (p : Printed) (u : State) → Counted before r → step r.state p.terminal ≡ Some u → Counted (before ++ p ∷ []) (behind r u p)
@@ -211,7 +212,7 @@ counted_on before r p u h goes =
     record {
       formulas = let k = formulas_by (begins_formula p.part) p.part p.terminal r.tally refl in let j = count_on (λ q. begins_formula q.part) before p in let i = h.formulas in omega arith;
       literals = literals_by (begins_formula p.part) p.part p.terminal r.tally 0 (of_formula [] before) p refl refl h.literals ∙ ap (count_by (λ q. begins_literal q.part)) (sym split);
-      variables = variables_by (begins_formula p.part) p.part p.terminal r.tally (of_formula [] before) p refl refl refl h.variables ∙ ap (variables_of []) (sym split);
+      variables = variables_by (begins_formula p.part) p.part p.terminal r.tally (of_formula [] before) p refl refl refl h.variables ∙ ap (variables_met []) (sym split);
       brackets = let k = one_more_bracket r.state p.terminal u goes in let j = count_on (λ q. opens q.terminal) before p in let i = count_on (λ q. closes q.terminal) before p in let g = h.brackets in omega arith;
     }
 
@@ -220,13 +221,13 @@ open_is before r h = let g = h.brackets in omega arith
 
 -- the machine's test of a limit is that of the tokens so far
 pub passes_is : (which : Which) (before : List Printed) (r : Reading) (p : Printed) → Counted before r → p.part ≡ part_at r.state p.terminal → passes which before p ≡ passes_at which r p.terminal
-passes_is Clauses before r p h e = ap (λ (x : Part). begins_formula x && nat_le 1048576 (formulas_in before)) e ∙ ap (λ (n : ℕ). begins_formula (part_at r.state p.terminal) && nat_le 1048576 n) (sym h.formulas)
-passes_is Literals before r p h e = ap (λ (x : Part). begins_literal x && nat_le 4096 (literals_in before)) e ∙ ap (λ (n : ℕ). begins_literal (part_at r.state p.terminal) && nat_le 4096 n) (sym h.literals)
+passes_is Clauses before r p h e = ap (λ (x : Part). begins_formula x && nat_le MAX_FORMULAS (formulas_in before)) e ∙ ap (λ (n : ℕ). begins_formula (part_at r.state p.terminal) && nat_le MAX_FORMULAS n) (sym h.formulas)
+passes_is Literals before r p h e = ap (λ (x : Part). begins_literal x && nat_le MAX_LITERALS (literals_in before)) e ∙ ap (λ (n : ℕ). begins_literal (part_at r.state p.terminal) && nat_le MAX_LITERALS n) (sym h.literals)
 passes_is Arguments before r p h e = ap (λ (x : Part). passes_argument x) e
   where
     passes_argument : Part → Bool
     passes_argument x = passes Arguments before (record { terminal = p.terminal; part = x; ends_atom = p.ends_atom })
 passes_is Variables before r p h e =
-    ap (λ (x : Part). nat_le 1025 (length (with_variables (variables_in before) (variable_as x p.terminal)))) e
-    ∙ ap (λ (x : List (List ℕ)). nat_le 1025 (length (with_variables x (variable_as (part_at r.state p.terminal) p.terminal)))) (sym h.variables)
-passes_is Nesting before r p h e = ap (λ (n : ℕ). opens p.terminal && nat_le 250 n) (open_is before r h)
+    ap (λ (x : Part). nat_lt MAX_VARIABLES (length (with_variables (variables_in before) (variable_as x p.terminal)))) e
+    ∙ ap (λ (x : List (List ℕ)). nat_lt MAX_VARIABLES (length (with_variables x (variable_as (part_at r.state p.terminal) p.terminal)))) (sym h.variables)
+passes_is Nesting before r p h e = ap (λ (n : ℕ). opens p.terminal && nat_le MAX_BRACKETS n) (open_is before r h)

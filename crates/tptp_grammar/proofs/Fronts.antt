@@ -5,9 +5,9 @@ use Rattle.std.specs.Prelude.{if◌then◌else◌}
 use Rattle.tptp_grammar.specs.Terminals.{Terminal}
 use Rattle.tptp_grammar.specs.Printed.{Printed, printed, printed_terminals}
 use Rattle.tptp_grammar.specs.Limits.{passes}
-use Rattle.tptp_grammar.specs.Files.{IsWithin, IsFront}
+use Rattle.tptp_grammar.specs.Files.{PassesNoLimit, IsFileFront}
 use Rattle.tptp_grammar.specs.Machine.{State, Between, step, run_on, part_at}
-use Rattle.tptp_grammar.specs.Readings.{Reading, start, counted, passes_at, first_passed_at, Verdict, GoesOn, Refused, limited, judged, verdict, on_from}
+use Rattle.tptp_grammar.specs.Readings.{Reading, start_reading, counted, passes_at, first_passed_at, Verdict, GoesOn, Refused, limited, judged, verdict, on_from}
 use Rattle.tptp_grammar.specs.declared.refusal.Which.{Which}
 use Rattle.tptp_grammar.specs.declared.refusal.Which.TheVariants.{Clauses, Literals, Arguments, Variables, Nesting}
 use Rattle.tptp_grammar.proofs.Rests.{file_of}
@@ -38,7 +38,7 @@ pick before (q ∷ ps) (r ∷ front) after p which h e =
     ap (λ (x : List Printed). passes which x p) (ap (λ (x : Printed). before ++ x ∷ front) (sym same) ∙ sym (append_assoc before (q ∷ []) front))
     ∙ pick (before ++ q ∷ []) ps front after p which h.1 (tail_is q r ps (front ++ p ∷ after) e)
 
-pub within_of : (ps : List Printed) → WithinBehind [] ps → IsWithin ps
+pub within_of : (ps : List Printed) → WithinBehind [] ps → PassesNoLimit ps
 within_of ps h before after p which e = pick [] ps before after p which h e
 
 behind_of : (before ps : List Printed) → ((front after : List Printed) (p : Printed) (which : Which) → ps ≡ front ++ p ∷ after → passes which (before ++ front) p ≡ false) → WithinBehind before ps
@@ -48,7 +48,7 @@ behind_of before (p ∷ ps) h = (
   behind_of (before ++ p ∷ []) ps (λ front after q which e. ap (λ (x : List Printed). passes which x q) (append_assoc before (p ∷ []) front) ∙ h (p ∷ front) after q which (ap (λ (x : List Printed). p ∷ x) e)),
 )
 
-pub behind_from : (ps : List Printed) → IsWithin ps → WithinBehind [] ps
+pub behind_from : (ps : List Printed) → PassesNoLimit ps → WithinBehind [] ps
 behind_from ps h = behind_of [] ps (λ front after p which e. h front after p which e)
 
 -- ---- a step
@@ -169,7 +169,7 @@ walk_back (p ∷ front) before after r r' w e =
       walked = subst (λ (x : List Printed). Walked x r' after) (append_assoc before (p ∷ []) front) k.walked;
     }
 
-pub counted_none : Counted [] start
+pub counted_none : Counted [] start_reading
 counted_none = record { formulas = refl; literals = refl; variables = refl; brackets = refl }
 
 -- ---- fronts of files
@@ -195,9 +195,9 @@ cut (t ∷ ts) us (p ∷ ps) e =
 pub record Reached (ts : List Terminal) (r : Reading) : Type 0 where
   pub front : List Printed
   pub after : List Printed
-  pub first : IsFront ts front after
+  pub first : IsFileFront ts front after
   pub rest : completion r.state ≡ printed_terminals after
-  pub within : IsWithin front
+  pub within : PassesNoLimit front
   pub walked : Walked front r after
 
 pub run-append : (o : Option State) (ts us : List Terminal) → run_on o (ts ++ us) ≡ run_on (run_on o ts) us
@@ -205,13 +205,13 @@ run-append None ts us = refl
 run-append (Some s) [] us = refl
 run-append (Some s) (t ∷ ts) us = run-append (step s t) ts us
 
-pub reached : (ts : List Terminal) (r : Reading) → on_from (GoesOn start) ts ≡ GoesOn r → Reached ts r
+pub reached : (ts : List Terminal) (r : Reading) → on_from (GoesOn start_reading) ts ≡ GoesOn r → Reached ts r
 reached ts r e =
-    let s = run_state start ts r e in
+    let s = run_state start_reading ts r e in
     let f = file_of (ts ++ completion r.state) (run-append (Some Between) ts (completion r.state) ∙ ap (λ (o : Option State). run_on o (completion r.state)) s ∙ completes r.state) in
     let c = cut ts (completion r.state) (printed f.0) f.1 in
-    let w : Walked [] start (c.front ++ c.after) = record { counted = counted_none; runs = subst (λ (x : List Printed). Runs Between x Between) c.parts (file_runs f.0) } in
-    let b = walk_back c.front [] c.after start r w (ap (on_from (GoesOn start)) (sym c.same) ∙ e) in
+    let w : Walked [] start_reading (c.front ++ c.after) = record { counted = counted_none; runs = subst (λ (x : List Printed). Runs Between x Between) c.parts (file_runs f.0) } in
+    let b = walk_back c.front [] c.after start_reading r w (ap (on_from (GoesOn start_reading)) (sym c.same) ∙ e) in
     record {
       front = c.front;
       after = c.after;
@@ -222,8 +222,8 @@ reached ts r e =
     }
 
 -- a front within the limits is read
-pub read_front : (ts : List Terminal) (front after : List Printed) → IsFront ts front after → IsWithin front → (r : Reading) × (on_from (GoesOn start) ts ≡ GoesOn r) × Walked front r after
+pub read_front : (ts : List Terminal) (front after : List Printed) → IsFileFront ts front after → PassesNoLimit front → (r : Reading) × (on_from (GoesOn start_reading) ts ≡ GoesOn r) × Walked front r after
 read_front ts front after f h =
-    let w : Walked [] start (front ++ after) = record { counted = counted_none; runs = subst (λ (x : List Printed). Runs Between x Between) f.parts (file_runs f.file) } in
-    let k = walk front [] after start w (behind_from front h) in
-    (k.0, ap (on_from (GoesOn start)) f.same ∙ k.1, k.2)
+    let w : Walked [] start_reading (front ++ after) = record { counted = counted_none; runs = subst (λ (x : List Printed). Runs Between x Between) f.parts (file_runs f.file) } in
+    let k = walk front [] after start_reading w (behind_from front h) in
+    (k.0, ap (on_from (GoesOn start_reading)) f.same ∙ k.1, k.2)

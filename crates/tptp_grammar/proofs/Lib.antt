@@ -1,11 +1,12 @@
 mod Rests
 mod Completions
 pub mod Runs
-mod Counts
+pub mod Counts
 mod Fronts
+pub mod Growth
 mod Places
 mod Causes
 pub mod Judgements
-mod Variables
+pub mod Variables
 pub mod Unique
 mod Steps

@@ -4,7 +4,7 @@ use Rattle.std.specs.Prelude.{not}
 use Rattle.tptp_grammar.specs.Terminals.{Terminal, CloseRound}
 use Rattle.tptp_grammar.specs.Printed.{Printed, printed_terminals}
 use Rattle.tptp_grammar.specs.declared.part.Part.{Part}
-use Rattle.tptp_grammar.specs.Files.{IsFront}
+use Rattle.tptp_grammar.specs.Files.{IsFileFront}
 use Rattle.tptp_grammar.specs.Refusals.{MayBegin, MayEndAtom}
 use Rattle.tptp_grammar.specs.Machine.{State, Between, Named, Done, run_on, part_at, is_open_round, ends_at}
 use Rattle.tptp_grammar.specs.Readings.{Reading}
@@ -24,7 +24,7 @@ pub record Leads (p : Part → Bool) (s : State) : Type 0 where
 head_terminal : (t : Terminal) (ts : List Terminal) (q : Printed) (qs : List Printed) → t ∷ ts ≡ printed_terminals (q ∷ qs) → q.terminal ≡ t
 head_terminal t ts q qs e = cc
 
-begin_at : (p : Part → Bool) (ts : List Terminal) (s : State) (front after : List Printed) → IsFront ts front after → Runs s after Between → Leads p s → completion s ≡ printed_terminals after → MayBegin p ts
+begin_at : (p : Part → Bool) (ts : List Terminal) (s : State) (front after : List Printed) → IsFileFront ts front after → Runs s after Between → Leads p s → completion s ≡ printed_terminals after → MayBegin p ts
 begin_at p ts s front [] f r l e = absurd (no_token l.token l.others (sym l.next ∙ e))
   where
     no_token : (t : Terminal) (us : List Terminal) → t ∷ us ≡ [] → ⊥
@@ -112,7 +112,7 @@ may_end ts r h e k =
         front = l.before;
         token = l.token;
         after = h.after;
-        first = subst (λ (x : List Printed). IsFront ts x h.after) l.parts f;
+        first = subst (λ (x : List Printed). IsFileFront ts x h.after) l.parts f;
         ends = l.ends ∙ not_open_next r.state h.after k h.rest;
       }
     ]

@@ -6,11 +6,11 @@ use Rattle.std.specs.Prelude.{if◌then◌else◌, ◌||◌}
 use Rattle.tptp_grammar.specs.Terminals as terminal
 use Rattle.tptp_grammar.specs.Terminals.{Terminal, LowerWord, SingleQuoted, DollarWord, Digits, Number, OpenRound, CloseRound, OpenSquare, CloseSquare, Comma, Dot, Bar, Tilde, Equality, OtherSign, Bad, is_role, is_note}
 use Rattle.tptp_grammar.specs.Written.{Bare, Quoted, WrittenTerm, Variable, Distinct, Apply, WrittenTerms, NoTerms, OneMore, WrittenAtom, Truth, Predicate, Sign, Positive, Negative, NegativeInBrackets, WrittenLiteral, WrittenLabel, Named, Numbered, Notes, NoNotes, Note, InRound, InSquare, WrittenFormula}
-use Rattle.tptp_grammar.specs.Printed.{Printed, plain, as_part, printed_terminals, truth_terminal, label_terminal, times_then, term_then, arguments_then, others_then, atom_then, literal_then, barred_then, notes_then, noted_then, printed}
+use Rattle.tptp_grammar.specs.Printed.{Printed, plain_token, as_part, printed_terminals, truth_terminal, label_terminal, times_then, term_then, arguments_then, others_then, atom_then, literal_then, barred_then, notes_then, noted_then, printed}
 use Rattle.tptp_grammar.specs.declared.part.Part.{Part}
 use Rattle.tptp_grammar.specs.declared.part.Part.TheVariants.{Positive as PositivePart, Atom as AtomPart, End as EndPart}
 use Rattle.tptp_grammar.specs.Machine as machine
-use Rattle.tptp_grammar.specs.Machine.{State, Between, run_on, is_truth, step, step_atom, step_argument, step_done, step_named, step_literal_end, step_formula_end, step_notes, step_notes_start, step_between, step_begun, step_opened, step_labelled, step_label_end, step_roled, step_literal_start, step_formula_start, step_negated, step_closed, closed}
+use Rattle.tptp_grammar.specs.Machine.{State, Between, run_on, is_truth, step, step_atom, step_argument, step_done, step_named, step_literal_end, step_formula_end, step_notes, step_notes_start, step_between, step_begun, step_opened, step_labelled, step_label_end, step_roled, step_literal_start, step_formula_start, step_negated, step_closed, after_bracket}
 
 -- ---- the tokens of what is left
 
@@ -24,7 +24,7 @@ bracket_close false = CloseSquare
 
 -- the line's closing bracket, its full stop, and further formulas
 abbrev line_then : List WrittenFormula → List Printed
-line_then fs = plain CloseRound ∷ as_part EndPart Dot ∷ printed fs
+line_then fs = plain_token CloseRound ∷ as_part EndPart Dot ∷ printed fs
 
 -- behind the literals: notes, and further formulas
 pub record Tail : Type 0 where
@@ -32,7 +32,7 @@ pub record Tail : Type 0 where
   pub formulas : List WrittenFormula
 
 abbrev tail_then : ℕ → Tail → List Printed
-tail_then k r = times_then k (plain CloseRound) (noted_then r.notes (line_then r.formulas))
+tail_then k r = times_then k (plain_token CloseRound) (noted_then r.notes (line_then r.formulas))
 
 -- behind a literal: others, and a tail
 pub record Others : Type 0 where
@@ -48,7 +48,7 @@ Arguments [] = Others
 Arguments (n ∷ ns) = WrittenTerms × Arguments ns
 
 abbrev bracketed_then : Bool → ℕ → Others → List Printed
-bracketed_then true k r = plain CloseRound ∷ literals_then k r
+bracketed_then true k r = plain_token CloseRound ∷ literals_then k r
 bracketed_then false k r = literals_then k r
 
 abbrev done_then : (ns : List ℕ) → Bool → ℕ → Arguments ns → List Printed
@@ -62,7 +62,7 @@ Inside (b ∷ bs) = Notes × Inside bs
 
 abbrev inside_then : (bs : List Bool) → Inside bs → List Printed
 inside_then [] fs = line_then fs
-inside_then (b ∷ bs) r = plain (bracket_close b) ∷ notes_then r.0 (inside_then bs r.1)
+inside_then (b ∷ bs) r = plain_token (bracket_close b) ∷ notes_then r.0 (inside_then bs r.1)
 
 abbrev Prints : List Terminal → List Printed → Type 0
 Prints ts ps = ts ≡ printed_terminals ps
@@ -80,18 +80,18 @@ abbrev with_label : WrittenLabel → Body → WrittenFormula
 with_label label g = record { label = label; role = g.role; role_known = g.role_known; brackets = g.brackets; first = g.first; others = g.others; notes = g.notes }
 
 abbrev opening_then : ℕ → ℕ → WrittenLiteral → Others → List Printed
-opening_then j m l r = times_then j (plain OpenRound) (literal_then l (literals_then m r))
+opening_then j m l r = times_then j (plain_token OpenRound) (literal_then l (literals_then m r))
 
 abbrev others_of : Body → List WrittenFormula → Others
 others_of g fs = record { literals = g.others; tail = record { notes = g.notes; formulas = fs } }
 
 abbrev body_then : Body → List WrittenFormula → List Printed
-body_then g fs = plain (LowerWord g.role) ∷ plain Comma ∷ opening_then g.brackets g.brackets g.first (others_of g fs)
+body_then g fs = plain_token (LowerWord g.role) ∷ plain_token Comma ∷ opening_then g.brackets g.brackets g.first (others_of g fs)
 
 -- The tokens are the rest of a file behind a state.
 abbrev pub Rest : State → List Terminal → Type 0
 Rest Between ts = (fs : List WrittenFormula) × Prints ts (printed fs)
-Rest machine.Closed ts = (fs : List WrittenFormula) × Prints ts (plain Dot ∷ printed fs)
+Rest machine.Closed ts = (fs : List WrittenFormula) × Prints ts (plain_token Dot ∷ printed fs)
 Rest (machine.Notes bs) ts = (ns : Notes) × (r : Inside bs) × Prints ts (notes_then ns (inside_then bs r))
 Rest machine.NotesStart ts = (ns : Notes) × (fs : List WrittenFormula) × Prints (Comma ∷ ts) (noted_then ns (line_then fs))
 Rest (machine.FormulaEnd k) ts = (r : Tail) × Prints ts (tail_then k r)
@@ -103,11 +103,11 @@ Rest (machine.AtomStart k) ts = (a : WrittenAtom) × (r : Others) × Prints ts (
 Rest (machine.Negated k) ts = (l : WrittenLiteral) × (r : Others) × Prints (Tilde ∷ ts) (literal_then l (literals_then k r))
 Rest (machine.LiteralStart k) ts = (l : WrittenLiteral) × (r : Others) × Prints ts (literal_then l (literals_then k r))
 Rest (machine.FormulaStart k) ts = (j m : ℕ) × (l : WrittenLiteral) × (r : Others) × (m ≡ j + k) × Prints ts (opening_then j m l r)
-Rest machine.Roled ts = (j : ℕ) × (l : WrittenLiteral) × (r : Others) × Prints ts (plain Comma ∷ opening_then j j l r)
+Rest machine.Roled ts = (j : ℕ) × (l : WrittenLiteral) × (r : Others) × Prints ts (plain_token Comma ∷ opening_then j j l r)
 Rest machine.LabelEnd ts = (g : Body) × (fs : List WrittenFormula) × Prints ts (body_then g fs)
-Rest machine.Labelled ts = (g : Body) × (fs : List WrittenFormula) × Prints ts (plain Comma ∷ body_then g fs)
-Rest machine.Opened ts = (label : WrittenLabel) × (g : Body) × (fs : List WrittenFormula) × Prints ts (plain (label_terminal label) ∷ plain Comma ∷ body_then g fs)
-Rest machine.Begun ts = (label : WrittenLabel) × (g : Body) × (fs : List WrittenFormula) × Prints ts (plain OpenRound ∷ plain (label_terminal label) ∷ plain Comma ∷ body_then g fs)
+Rest machine.Labelled ts = (g : Body) × (fs : List WrittenFormula) × Prints ts (plain_token Comma ∷ body_then g fs)
+Rest machine.Opened ts = (label : WrittenLabel) × (g : Body) × (fs : List WrittenFormula) × Prints ts (plain_token (label_terminal label) ∷ plain_token Comma ∷ body_then g fs)
+Rest machine.Begun ts = (label : WrittenLabel) × (g : Body) × (fs : List WrittenFormula) × Prints ts (plain_token OpenRound ∷ plain_token (label_terminal label) ∷ plain_token Comma ∷ body_then g fs)
 
 abbrev pub RestOf : Option State → List Terminal → Type 0
 RestOf None ts = ⊥
@@ -150,7 +150,7 @@ no_more r = record { literals = []; tail = r }
 abbrev no_notes : List WrittenFormula → Tail
 no_notes fs = record { notes = NoNotes; formulas = fs }
 
-close_read : (k : ℕ) (ts : List Terminal) → Rest (closed k) ts → Rest (machine.FormulaEnd k) (CloseRound ∷ ts)
+close_read : (k : ℕ) (ts : List Terminal) → Rest (after_bracket k) ts → Rest (machine.FormulaEnd k) (CloseRound ∷ ts)
 close_read zero ts h = (no_notes h.0, put _ _ _ h.1)
 close_read (suc k) ts h = (h.0, put _ _ _ h.1)
 

@@ -4,7 +4,7 @@ use Rattle.std.specs.Prelude.{not}
 use Rattle.tptp_grammar.specs.Terminals.{Terminal, LowerWord, SingleQuoted, OpenRound, CloseRound, OpenSquare, CloseSquare, Comma, Dot, Tilde, Bad, is_role, is_note}
 use Rattle.tptp_grammar.specs.Written.{Name, Bare, Quoted, WrittenTerm, Variable, Distinct, Apply, WrittenTerms, NoTerms, OneMore, WrittenAtom, Truth, Predicate, Sign, Positive, Negative, NegativeInBrackets, WrittenLiteral, WrittenLabel, Numbered, NoNotes, Note, InRound, InSquare, WrittenFormula}
 use Rattle.tptp_grammar.specs.Written as written
-use Rattle.tptp_grammar.specs.Printed.{Printed, plain, as_part, printed_terminals, name_terminal, truth_terminal, label_terminal, times_then, term_then, arguments_then, others_then, has_none, atom_then, signed_then, literal_then, barred_then, notes_then, noted_then, formula_then, printed}
+use Rattle.tptp_grammar.specs.Printed.{Printed, plain_token, as_part, printed_terminals, name_terminal, truth_terminal, label_terminal, times_then, term_then, arguments_then, others_then, has_none, atom_then, signed_then, literal_then, barred_then, notes_then, noted_then, formula_then, printed}
 use Rattle.tptp_grammar.specs.declared.part.Part.{Part}
 use Rattle.tptp_grammar.specs.declared.part.Part.TheVariants.{Negative as NegativePart, Positive as PositivePart, Atom as AtomPart, Other as OtherPart, End as EndPart}
 use Rattle.tptp_grammar.specs.Machine.{State, Between, Begun, Opened, Labelled, LabelEnd, Roled, FormulaStart, LiteralStart, Negated, AtomStart, ArgumentStart, Named, Done, LiteralEnd, FormulaEnd, NotesStart, Notes, Closed, step, step_named, step_done, step_notes, step_notes_start, step_opened, run_on, done_part, named_part, part_at, is_open_round, ends_at}
@@ -132,7 +132,7 @@ signed_runs NegativeInBrackets a s k rest u n t p o h = (
   (
     AtomStart k,
     record { goes = refl; part = refl; ends = refl },
-    atom_runs a (AtomStart k) AtomPart true k (plain CloseRound ∷ rest) u (in_brackets k) refl (LiteralEnd k, record { goes = refl; part = refl; ends = refl }, h),
+    atom_runs a (AtomStart k) AtomPart true k (plain_token CloseRound ∷ rest) u (in_brackets k) refl (LiteralEnd k, record { goes = refl; part = refl; ends = refl }, h),
   ),
 )
 
@@ -174,16 +174,16 @@ notes_run (Note t known ns) bs rest u h = (Notes bs, record { goes = note_step b
 notes_run (InRound inner ns) bs rest u h = (
   Notes (true ∷ bs),
   record { goes = refl; part = refl; ends = refl },
-  notes_run inner (true ∷ bs) (plain CloseRound ∷ notes_then ns rest) u (Notes bs, record { goes = refl; part = refl; ends = refl }, notes_run ns bs rest u h),
+  notes_run inner (true ∷ bs) (plain_token CloseRound ∷ notes_then ns rest) u (Notes bs, record { goes = refl; part = refl; ends = refl }, notes_run ns bs rest u h),
 )
 notes_run (InSquare inner ns) bs rest u h = (
   Notes (false ∷ bs),
   record { goes = refl; part = refl; ends = refl },
-  notes_run inner (false ∷ bs) (plain CloseSquare ∷ notes_then ns rest) u (Notes bs, record { goes = refl; part = refl; ends = refl }, notes_run ns bs rest u h),
+  notes_run inner (false ∷ bs) (plain_token CloseSquare ∷ notes_then ns rest) u (Notes bs, record { goes = refl; part = refl; ends = refl }, notes_run ns bs rest u h),
 )
 
 abbrev line_then : List Printed → List Printed
-line_then rest = plain CloseRound ∷ as_part EndPart Dot ∷ rest
+line_then rest = plain_token CloseRound ∷ as_part EndPart Dot ∷ rest
 
 line_runs : (s : State) (rest : List Printed) (u : State) → step s CloseRound ≡ Some Closed → OtherPart ≡ part_at s CloseRound → Runs Between rest u → Runs s (line_then rest) u
 line_runs s rest u c p h = (Closed, record { goes = c; part = p; ends = refl }, (Between, record { goes = refl; part = refl; ends = refl }, h))
@@ -206,7 +206,7 @@ noted_runs (InRound inner ns) s rest u c d p q h = (
   (
     Notes (true ∷ []),
     record { goes = refl; part = refl; ends = refl },
-    notes_run inner (true ∷ []) (plain CloseRound ∷ notes_then ns (line_then rest)) u (Notes [], record { goes = refl; part = refl; ends = refl }, notes_run ns [] (line_then rest) u (line_runs (Notes []) rest u refl refl h)),
+    notes_run inner (true ∷ []) (plain_token CloseRound ∷ notes_then ns (line_then rest)) u (Notes [], record { goes = refl; part = refl; ends = refl }, notes_run ns [] (line_then rest) u (line_runs (Notes []) rest u refl refl h)),
   ),
 )
 noted_runs (InSquare inner ns) s rest u c d p q h = (
@@ -215,14 +215,14 @@ noted_runs (InSquare inner ns) s rest u c d p q h = (
   (
     Notes (false ∷ []),
     record { goes = refl; part = refl; ends = refl },
-    notes_run inner (false ∷ []) (plain CloseSquare ∷ notes_then ns (line_then rest)) u (Notes [], record { goes = refl; part = refl; ends = refl }, notes_run ns [] (line_then rest) u (line_runs (Notes []) rest u refl refl h)),
+    notes_run inner (false ∷ []) (plain_token CloseSquare ∷ notes_then ns (line_then rest)) u (Notes [], record { goes = refl; part = refl; ends = refl }, notes_run ns [] (line_then rest) u (line_runs (Notes []) rest u refl refl h)),
   ),
 )
 
 -- ---- formulas
 
 abbrev tail_then : ℕ → written.Notes → List Printed → List Printed
-tail_then k ns rest = times_then k (plain CloseRound) (noted_then ns (line_then rest))
+tail_then k ns rest = times_then k (plain_token CloseRound) (noted_then ns (line_then rest))
 
 tail_runs : (k : ℕ) (ns : written.Notes) (rest : List Printed) (u : State) → Runs Between rest u → Runs (FormulaEnd k) (tail_then k ns rest) u
 tail_runs zero ns rest u h = noted_runs ns (FormulaEnd 0) rest u refl refl refl refl h
@@ -242,7 +242,7 @@ tail_not_open : (k : ℕ) (ns : written.Notes) (rest : List Printed) → NotOpen
 tail_not_open zero ns rest = noted_not_open ns rest
 tail_not_open (suc k) ns rest = refl
 
-opens_run : (j k m : ℕ) (rest : List Printed) (u : State) → m ≡ j + k → Runs (FormulaStart m) rest u → Runs (FormulaStart k) (times_then j (plain OpenRound) rest) u
+opens_run : (j k m : ℕ) (rest : List Printed) (u : State) → m ≡ j + k → Runs (FormulaStart m) rest u → Runs (FormulaStart k) (times_then j (plain_token OpenRound) rest) u
 opens_run zero k m rest u e h = let same : m ≡ k = omega (arith, e) in subst (λ (x : ℕ). Runs (FormulaStart x) rest u) same h
 opens_run (suc j) k m rest u e h = (FormulaStart (suc k), record { goes = refl; part = refl; ends = refl }, opens_run j (suc k) m rest u (omega (arith, e)) h)
 

@@ -1,6 +1,7 @@
 -- A step of the code is a step of the machine.
+use Rattle.tptp_grammar.specs.declared.limits.TheConstants.{MAX_FORMULAS, MAX_LITERALS, MAX_ARGUMENTS, MAX_VARIABLES, MAX_BRACKETS}
 use Rattle.std.proofs.Common.{◌≡◌, ℕ, Bool, true, false, List, length, Option, Some, None, refl, sym, ap, ◌∙◌}
-use Rattle.std.specs.Prelude.{◌&&◌, nat_le}
+use Rattle.std.specs.Prelude.{◌&&◌, nat_le, nat_lt}
 use Rattle.tptp_tokens.specs.declared.token.TokenKind.{TokenKind}
 use Rattle.tptp_tokens.specs.declared.token.TokenKind.TheVariants.{OpenRound, OpenSquare}
 use Rattle.tptp_grammar.specs.Terminals.{Terminal, terminal_as}
@@ -31,15 +32,15 @@ counted_is true part t tally = refl
 counted_is false part t tally = refl
 
 pub stepped : (r final : Reading) (t : Terminal) (part : Part) (u : State) (before : Tally) (too_deep : Bool) → part ≡ part_at r.state t → step r.state t ≡ Some u
-    → first_of (begins_formula part && nat_le 1048576 r.tally.formulas) (begins_literal part && nat_le 4096 r.tally.literals) (begins_argument_behind 64 part) false false ≡ None
-    → before ≡ noted part t r.tally → too_deep ≡ (opens t && nat_le 250 (open_brackets r.state))
-    → first_of false false false (nat_le 1025 (length before.variables)) too_deep ≡ None
+    → first_of (begins_formula part && nat_le MAX_FORMULAS r.tally.formulas) (begins_literal part && nat_le MAX_LITERALS r.tally.literals) (begins_argument_behind MAX_ARGUMENTS part) false false ≡ None
+    → before ≡ noted part t r.tally → too_deep ≡ (opens t && nat_le MAX_BRACKETS (open_brackets r.state))
+    → first_of false false false (nat_lt MAX_VARIABLES (length before.variables)) too_deep ≡ None
     → final.state ≡ u → final.tally ≡ counted_part part before
     → verdict r t ≡ GoesOn final
 stepped r final t part u before too_deep p s f n d g w k =
-    let g' : first_of false false false (nat_le 1025 (length (with_variables r.tally.variables (variable_as part t)))) (opens t && nat_le 250 (open_brackets r.state)) ≡ None =
-    ap (λ (x : Tally). first_of false false false (nat_le 1025 (length x.variables)) (opens t && nat_le 250 (open_brackets r.state))) (sym n)
-    ∙ ap (λ (x : Bool). first_of false false false (nat_le 1025 (length before.variables)) x) (sym d) ∙ g in
+    let g' : first_of false false false (nat_lt MAX_VARIABLES (length (with_variables r.tally.variables (variable_as part t)))) (opens t && nat_le MAX_BRACKETS (open_brackets r.state)) ≡ None =
+    ap (λ (x : Tally). first_of false false false (nat_lt MAX_VARIABLES (length x.variables)) (opens t && nat_le MAX_BRACKETS (open_brackets r.state))) (sym n)
+    ∙ ap (λ (x : Bool). first_of false false false (nat_lt MAX_VARIABLES (length before.variables)) x) (sym d) ∙ g in
     let all : first_passed part (open_brackets r.state) r.tally t ≡ None = none_of _ _ _ _ _ f g' in
     let here : first_passed_at r t ≡ None = ap (λ (x : Part). first_passed x (open_brackets r.state) r.tally t) (sym p) ∙ all in
     let tally : counted (part_at r.state t) t r.tally ≡ final.tally =

@@ -5,10 +5,10 @@ use Rattle.std.specs.Str.{bytes_eq}
 use Rattle.std.specs.Prelude.{◌||◌}
 use Rattle.tptp_grammar.specs.Limits.{with_variables}
 
-abbrev texts : List (Bor (List ℕ)) → List (List ℕ)
+abbrev pub texts : List (Bor (List ℕ)) → List (List ℕ)
 texts ks = map (λ k. k.now) ks
 
-any_text : (text : List ℕ) (ks : List (Bor (List ℕ))) → list_any (λ x. bytes_eq text x.now) ks ≡ list_any (bytes_eq text) (texts ks)
+pub any_text : (text : List ℕ) (ks : List (Bor (List ℕ))) → list_any (λ x. bytes_eq text x.now) ks ≡ list_any (bytes_eq text) (texts ks)
 any_text text [] = refl
 any_text text (k ∷ ks) = ap (λ (b : Bool). bytes_eq text k.now || b) (any_text text ks)
 

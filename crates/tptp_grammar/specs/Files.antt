@@ -11,20 +11,20 @@ abbrev pub IsWritten : List Terminal → List WrittenFormula → Type 0
 IsWritten tokens file = tokens ≡ printed_terminals (printed file)
 
 -- the tokens begin a file of the grammar: some others behind them make one
-abbrev pub Begins : List Terminal → Type 0
-Begins tokens = (others : List Terminal) × (file : List WrittenFormula) × IsWritten (tokens ++ others) file
+abbrev pub BeginsFile : List Terminal → Type 0
+BeginsFile tokens = (others : List Terminal) × (file : List WrittenFormula) × IsWritten (tokens ++ others) file
 
 -- no token passes a limit
-abbrev pub IsWithin : List Printed → Type 0
-IsWithin tokens = (before after : List Printed) (p : Printed) (which : Which) → tokens ≡ before ++ p ∷ after → passes which before p ≡ false
+abbrev pub PassesNoLimit : List Printed → Type 0
+PassesNoLimit tokens = (before after : List Printed) (p : Printed) (which : Which) → tokens ≡ before ++ p ∷ after → passes which before p ≡ false
 
 -- The tokens are this file, and the limits hold.
-pub record IsFile (tokens : List Terminal) (file : List WrittenFormula) : Type 0 where
+pub record IsFileWithinLimits (tokens : List Terminal) (file : List WrittenFormula) : Type 0 where
   pub written : IsWritten tokens file
-  pub within : IsWithin (printed file)
+  pub within : PassesNoLimit (printed file)
 
 -- These are the first tokens of a file, each with what it begins there, and those in after come behind them.
-pub record IsFront (tokens : List Terminal) (front after : List Printed) : Type 0 where
+pub record IsFileFront (tokens : List Terminal) (front after : List Printed) : Type 0 where
   pub file : List WrittenFormula
   pub parts : printed file ≡ front ++ after
   pub same : tokens ≡ printed_terminals front

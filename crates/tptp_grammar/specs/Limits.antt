@@ -1,5 +1,6 @@
 -- What a token counts, and which limits it passes.
-use Rattle.std.specs.Prelude.{ℕ, suc, ◌-◌, Bool, true, false, ◌&&◌, List, [], ◌∷◌, ◌++◌, length, nat_le, if◌then◌else◌}
+use Rattle.tptp_grammar.specs.declared.limits.TheConstants.{MAX_FORMULAS, MAX_LITERALS, MAX_ARGUMENTS, MAX_VARIABLES, MAX_BRACKETS}
+use Rattle.std.specs.Prelude.{ℕ, suc, ◌-◌, Bool, true, false, ◌&&◌, List, [], ◌∷◌, ◌++◌, length, nat_le, nat_lt, if◌then◌else◌}
 use Rattle.std.specs.List.{list_any, count_by}
 use Rattle.std.specs.Str.{bytes_eq}
 use Rattle.tptp_grammar.specs.Terminals.{Terminal, Variable, OpenRound, CloseRound, OpenSquare, CloseSquare}
@@ -55,13 +56,13 @@ abbrev pub with_variables : List (List ℕ) → List (List ℕ) → List (List �
 with_variables known [] = known
 with_variables known (text ∷ texts) = with_variables (if list_any (bytes_eq text) known then known else known ++ text ∷ []) texts
 
-abbrev pub variables_of : List (List ℕ) → List Printed → List (List ℕ)
-variables_of known [] = known
-variables_of known (p ∷ tokens) = variables_of (with_variables known (variable_as p.part p.terminal)) tokens
+abbrev pub variables_met : List (List ℕ) → List Printed → List (List ℕ)
+variables_met known [] = known
+variables_met known (p ∷ tokens) = variables_met (with_variables known (variable_as p.part p.terminal)) tokens
 
 -- the different variables of that formula, in the order of first occurrence
 abbrev pub variables_in : List Printed → List (List ℕ)
-variables_in tokens = variables_of [] (of_formula [] tokens)
+variables_in tokens = variables_met [] (of_formula [] tokens)
 
 abbrev pub begins_argument_behind : ℕ → Part → Bool
 begins_argument_behind n (ArgumentPart k) = nat_le (suc n) k
@@ -69,8 +70,8 @@ begins_argument_behind n part = false
 
 -- Whether a token passes a limit where these stand before it: it begins one formula too many, one literal of its formula too many, or one argument too many; it is one variable too many; or it opens one bracket too many.
 abbrev pub passes : Which → List Printed → Printed → Bool
-passes Clauses before p = begins_formula p.part && nat_le 1048576 (formulas_in before)
-passes Literals before p = begins_literal p.part && nat_le 4096 (literals_in before)
-passes Arguments before p = begins_argument_behind 64 p.part
-passes Variables before p = nat_le 1025 (length (with_variables (variables_in before) (variable_as p.part p.terminal)))
-passes Nesting before p = opens p.terminal && nat_le 250 (open_in before)
+passes Clauses before p = begins_formula p.part && nat_le MAX_FORMULAS (formulas_in before)
+passes Literals before p = begins_literal p.part && nat_le MAX_LITERALS (literals_in before)
+passes Arguments before p = begins_argument_behind MAX_ARGUMENTS p.part
+passes Variables before p = nat_lt MAX_VARIABLES (length (with_variables (variables_in before) (variable_as p.part p.terminal)))
+passes Nesting before p = opens p.terminal && nat_le MAX_BRACKETS (open_in before)

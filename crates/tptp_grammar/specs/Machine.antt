@@ -1,5 +1,6 @@
 -- The machine that reads the tokens of a file, one by one.
-use Rattle.std.specs.Prelude.{ℕ, zero, suc, ◌+◌, Bool, true, false, List, [], ◌∷◌, length, Option, Some, None, codes, ◌||◌, not, if◌then◌else◌}
+use Rattle.std.specs.Prelude.{◌≤◌, ℕ, zero, suc, ◌+◌, Bool, true, false, List, [], ◌∷◌, length, Option, Some, None, codes, ◌||◌, not, if◌then◌else◌}
+use Rattle.std.specs.List.{AllByRecursion}
 use Rattle.std.specs.Str.{bytes_eq}
 use Rattle.tptp_grammar.specs.Terminals.{Terminal, LowerWord, SingleQuoted, Variable, Distinct, DollarWord, Digits, OpenRound, CloseRound, OpenSquare, CloseSquare, Comma, Dot, Bar, Tilde, Bad, is_role}
 use Rattle.tptp_grammar.specs.Printed.{Printed}
@@ -52,20 +53,20 @@ step_argument ns b k (Distinct text) = Some (Done ns b k)
 step_argument ns b k t = None
 
 -- a round bracket closes, where k others are open round the literals
-abbrev pub closed : ℕ → State
-closed zero = Closed
-closed (suc k) = FormulaEnd k
+abbrev pub after_bracket : ℕ → State
+after_bracket zero = Closed
+after_bracket (suc k) = FormulaEnd k
 
 -- behind a whole literal
 abbrev pub step_literal_end : ℕ → Terminal → Option State
 step_literal_end k Bar = Some (LiteralStart k)
-step_literal_end k CloseRound = Some (closed k)
+step_literal_end k CloseRound = Some (after_bracket k)
 step_literal_end zero Comma = Some NotesStart
 step_literal_end k t = None
 
 -- behind a bracket that closed the literals
 abbrev pub step_formula_end : ℕ → Terminal → Option State
-step_formula_end k CloseRound = Some (closed k)
+step_formula_end k CloseRound = Some (after_bracket k)
 step_formula_end zero Comma = Some NotesStart
 step_formula_end k t = None
 
@@ -163,6 +164,19 @@ step NotesStart t = step_notes_start t
 step (Notes stack) t = step_notes stack t
 step Closed t = step_closed t
 
+-- Each number that is counted in this state is at most n: that of the open brackets round the literals, and those of the arguments that are being read or come next.
+abbrev pub CountsUpTo : ℕ → State → Type 0
+CountsUpTo n (FormulaStart k) = k ≤ n
+CountsUpTo n (LiteralStart k) = k ≤ n
+CountsUpTo n (Negated k) = k ≤ n
+CountsUpTo n (AtomStart k) = k ≤ n
+CountsUpTo n (ArgumentStart m ms b k) = (m ≤ n) × AllByRecursion (λ i. i ≤ n) ms × (k ≤ n)
+CountsUpTo n (Named ms b k) = AllByRecursion (λ i. i ≤ n) ms × (k ≤ n)
+CountsUpTo n (Done ms b k) = AllByRecursion (λ i. i ≤ n) ms × (k ≤ n)
+CountsUpTo n (LiteralEnd k) = k ≤ n
+CountsUpTo n (FormulaEnd k) = k ≤ n
+CountsUpTo n s = Unit {0}
+
 abbrev pub run_on : Option State → List Terminal → Option State
 run_on None ts = None
 run_on (Some s) [] = Some s
@@ -221,9 +235,9 @@ ends_at (Done [] b k) next = true
 ends_at s next = false
 
 -- how many brackets are open
-abbrev pub bit : Bool → ℕ
-bit true = 1
-bit false = 0
+abbrev pub open_if : Bool → ℕ
+open_if true = 1
+open_if false = 0
 
 abbrev pub open_brackets : State → ℕ
 open_brackets Between = 0
@@ -232,9 +246,9 @@ open_brackets (FormulaStart k) = suc k
 open_brackets (LiteralStart k) = suc k
 open_brackets (Negated k) = suc k
 open_brackets (AtomStart k) = suc (suc k)
-open_brackets (ArgumentStart n ns b k) = suc (length ns) + bit b + suc k
-open_brackets (Named ns b k) = length ns + bit b + suc k
-open_brackets (Done ns b k) = length ns + bit b + suc k
+open_brackets (ArgumentStart n ns b k) = suc (length ns) + open_if b + suc k
+open_brackets (Named ns b k) = length ns + open_if b + suc k
+open_brackets (Done ns b k) = length ns + open_if b + suc k
 open_brackets (LiteralEnd k) = suc k
 open_brackets (FormulaEnd k) = suc k
 open_brackets (Notes stack) = suc (length stack)

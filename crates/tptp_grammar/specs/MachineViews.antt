@@ -1,7 +1,7 @@
 -- What the machine of the code has read and counted.
 use Rattle.std.specs.Prelude.{suc, ◌+◌, Bool, true, false, [], map}
 use Rattle.tptp_grammar.specs.Limits.{begins_formula, begins_literal}
-use Rattle.tptp_grammar.specs.Machine.{bit}
+use Rattle.tptp_grammar.specs.Machine.{open_if}
 use Rattle.tptp_grammar.specs.declared.part.Part.{Part}
 use Rattle.std.specs.Prelude.{◌≡◌}
 use Rattle.tptp_grammar.specs.Readings.{Tally, Reading, Verdict, Refused}
@@ -18,13 +18,13 @@ reading m = record { state = state_of m.place; tally = tally_of m }
 
 abbrev pub counted_part_if : Bool → Part → Tally → Tally
 counted_part_if true part tally = record { formulas = suc tally.formulas; literals = 0; variables = [] }
-counted_part_if false part tally = record { formulas = tally.formulas; literals = bit (begins_literal part) + tally.literals; variables = tally.variables }
+counted_part_if false part tally = record { formulas = tally.formulas; literals = open_if (begins_literal part) + tally.literals; variables = tally.variables }
 
 -- a token of this part is counted, but for its variable
 abbrev pub counted_part : Part → Tally → Tally
 counted_part part tally = counted_part_if (begins_formula part) part tally
 
 -- the error tells what the verdict is
-abbrev pub Tells : Verdict → StepError → Type 0
-Tells verdict (errors.Refused refusal) = verdict ≡ Refused refusal
-Tells verdict errors.Memory = Unit {0}
+abbrev pub TellsVerdict : Verdict → StepError → Type 0
+TellsVerdict verdict (errors.Refused refusal) = verdict ≡ Refused refusal
+TellsVerdict verdict errors.Memory = Unit {0}

@@ -12,8 +12,8 @@ pub record Printed : Type 0 where
   pub part : Part
   pub ends_atom : Bool
 
-abbrev pub plain : Terminal → Printed
-plain t = record { terminal = t; part = OtherPart; ends_atom = false }
+abbrev pub plain_token : Terminal → Printed
+plain_token t = record { terminal = t; part = OtherPart; ends_atom = false }
 
 abbrev pub as_part : Part → Terminal → Printed
 as_part part t = record { terminal = t; part = part; ends_atom = false }
@@ -54,7 +54,7 @@ abbrev mutual
   -- the arguments behind that of this number, and the closing bracket
   pub others_then : Bool → ℕ → WrittenTerms → List Printed → List Printed
   others_then ends n NoTerms rest = record { terminal = CloseRound; part = CloseArguments n; ends_atom = ends } ∷ rest
-  others_then ends n (OneMore t ts) rest = plain Comma ∷ term_then (suc n) t (others_then ends (suc n) ts rest)
+  others_then ends n (OneMore t ts) rest = plain_token Comma ∷ term_then (suc n) t (others_then ends (suc n) ts rest)
 
 abbrev pub has_none : WrittenTerms → Bool
 has_none NoTerms = true
@@ -67,7 +67,7 @@ atom_then part (Predicate name arguments) rest = record { terminal = name_termin
 abbrev pub signed_then : Sign → WrittenAtom → List Printed → List Printed
 signed_then Positive atom rest = atom_then PositivePart atom rest
 signed_then Negative atom rest = as_part NegativePart Tilde ∷ atom_then AtomPart atom rest
-signed_then NegativeInBrackets atom rest = as_part NegativePart Tilde ∷ plain OpenRound ∷ atom_then AtomPart atom (plain CloseRound ∷ rest)
+signed_then NegativeInBrackets atom rest = as_part NegativePart Tilde ∷ plain_token OpenRound ∷ atom_then AtomPart atom (plain_token CloseRound ∷ rest)
 
 abbrev pub literal_then : WrittenLiteral → List Printed → List Printed
 literal_then literal rest = signed_then literal.sign literal.atom rest
@@ -75,24 +75,24 @@ literal_then literal rest = signed_then literal.sign literal.atom rest
 -- each literal behind a bar
 abbrev pub barred_then : List WrittenLiteral → List Printed → List Printed
 barred_then [] rest = rest
-barred_then (literal ∷ literals) rest = plain Bar ∷ literal_then literal (barred_then literals rest)
+barred_then (literal ∷ literals) rest = plain_token Bar ∷ literal_then literal (barred_then literals rest)
 
 abbrev pub notes_then : Notes → List Printed → List Printed
 notes_then NoNotes rest = rest
-notes_then (Note t known notes) rest = plain t ∷ notes_then notes rest
-notes_then (InRound inner notes) rest = plain OpenRound ∷ notes_then inner (plain CloseRound ∷ notes_then notes rest)
-notes_then (InSquare inner notes) rest = plain OpenSquare ∷ notes_then inner (plain CloseSquare ∷ notes_then notes rest)
+notes_then (Note t known notes) rest = plain_token t ∷ notes_then notes rest
+notes_then (InRound inner notes) rest = plain_token OpenRound ∷ notes_then inner (plain_token CloseRound ∷ notes_then notes rest)
+notes_then (InSquare inner notes) rest = plain_token OpenSquare ∷ notes_then inner (plain_token CloseSquare ∷ notes_then notes rest)
 
 -- nothing, or a comma and notes
 abbrev pub noted_then : Notes → List Printed → List Printed
 noted_then NoNotes rest = rest
-noted_then notes rest = plain Comma ∷ notes_then notes rest
+noted_then notes rest = plain_token Comma ∷ notes_then notes rest
 
 -- cnf ( LABEL , ROLE , ( .. ( LITERALS ) .. ) , NOTES ) .
 abbrev pub formula_then : WrittenFormula → List Printed → List Printed
 formula_then f rest =
-    as_part FormulaPart (LowerWord (codes "cnf")) ∷ plain OpenRound ∷ as_part LabelPart (label_terminal f.label) ∷ plain Comma ∷ as_part RolePart (LowerWord f.role) ∷ plain Comma
-    ∷ times_then f.brackets (plain OpenRound) (literal_then f.first (barred_then f.others (times_then f.brackets (plain CloseRound) (noted_then f.notes (plain CloseRound ∷ as_part EndPart Dot ∷ rest)))))
+    as_part FormulaPart (LowerWord (codes "cnf")) ∷ plain_token OpenRound ∷ as_part LabelPart (label_terminal f.label) ∷ plain_token Comma ∷ as_part RolePart (LowerWord f.role) ∷ plain_token Comma
+    ∷ times_then f.brackets (plain_token OpenRound) (literal_then f.first (barred_then f.others (times_then f.brackets (plain_token CloseRound) (noted_then f.notes (plain_token CloseRound ∷ as_part EndPart Dot ∷ rest)))))
 
 -- the tokens of a file
 abbrev pub printed : List WrittenFormula → List Printed

@@ -1,10 +1,11 @@
 -- The machine with what it counts, and what it says of each token.
-use Rattle.std.specs.Prelude.{ℕ, suc, ◌+◌, Bool, true, false, ◌&&◌, List, [], ◌∷◌, length, nat_le, Option, Some, None, if◌then◌else◌}
+use Rattle.tptp_grammar.specs.declared.limits.TheConstants.{MAX_FORMULAS, MAX_LITERALS, MAX_ARGUMENTS, MAX_VARIABLES, MAX_BRACKETS}
+use Rattle.std.specs.Prelude.{ℕ, suc, ◌+◌, Bool, true, false, ◌&&◌, List, [], ◌∷◌, length, nat_le, nat_lt, Option, Some, None, if◌then◌else◌}
 use Rattle.tptp_grammar.specs.Terminals.{Terminal}
 use Rattle.tptp_grammar.specs.declared.part.Part.{Part}
 use Rattle.tptp_grammar.specs.Limits.{begins_formula, begins_literal, opens, variable_as, with_variables, begins_argument_behind}
-use Rattle.tptp_grammar.specs.Refusals.{is_language, is_include, is_conjecture, is_lower_word, is_equality, is_variable_or_distinct, is_number, is_dollar_word}
-use Rattle.tptp_grammar.specs.Machine.{State, Between, LabelEnd, FormulaStart, LiteralStart, Negated, AtomStart, ArgumentStart, Named, Done, step, part_at, bit, open_brackets}
+use Rattle.tptp_grammar.specs.Refusals.{is_language, is_include, is_conjecture, is_lower_word_token, is_equality, is_variable_or_distinct, is_number, is_dollar_word}
+use Rattle.tptp_grammar.specs.Machine.{State, Between, LabelEnd, FormulaStart, LiteralStart, Negated, AtomStart, ArgumentStart, Named, Done, step, part_at, open_if, open_brackets}
 use Rattle.tptp_grammar.specs.declared.refusal.What.TheVariants as what
 use Rattle.tptp_grammar.specs.declared.refusal.Which.{Which}
 use Rattle.tptp_grammar.specs.declared.refusal.Which.TheVariants.{Clauses, Literals, Arguments, Variables, Nesting}
@@ -21,12 +22,12 @@ pub record Reading : Type 0 where
   pub state : State
   pub tally : Tally
 
-abbrev pub start : Reading
-start = record { state = Between; tally = record { formulas = 0; literals = 0; variables = [] } }
+abbrev pub start_reading : Reading
+start_reading = record { state = Between; tally = record { formulas = 0; literals = 0; variables = [] } }
 
 abbrev pub counted_if : Bool → Part → Terminal → Tally → Tally
 counted_if true part t tally = record { formulas = suc tally.formulas; literals = 0; variables = [] }
-counted_if false part t tally = record { formulas = tally.formulas; literals = bit (begins_literal part) + tally.literals; variables = with_variables tally.variables (variable_as part t) }
+counted_if false part t tally = record { formulas = tally.formulas; literals = open_if (begins_literal part) + tally.literals; variables = with_variables tally.variables (variable_as part t) }
 
 -- what is counted behind a token
 abbrev pub counted : Part → Terminal → Tally → Tally
@@ -37,7 +38,7 @@ abbrev pub formula_kind : Terminal → Refusal
 formula_kind t = if is_language t then Inappropriate what.Language else (if is_include t then Inappropriate what.Include else Syntax)
 
 abbrev pub role_kind : Terminal → Refusal
-role_kind t = if is_conjecture t then Inappropriate what.Conjecture else (if is_lower_word t then Inappropriate what.Role else Syntax)
+role_kind t = if is_conjecture t then Inappropriate what.Conjecture else (if is_lower_word_token t then Inappropriate what.Role else Syntax)
 
 abbrev pub argument_kind : Terminal → Refusal
 argument_kind t = if is_number t then Inappropriate what.Number else (if is_dollar_word t then Inappropriate what.Defined else Syntax)
@@ -63,11 +64,11 @@ kind_at s t = Syntax
 
 -- whether a token, which begins this part, passes a limit where so many brackets are open and this was counted
 abbrev pub exceeds : Which → Part → ℕ → Tally → Terminal → Bool
-exceeds Clauses part brackets tally t = begins_formula part && nat_le 1048576 tally.formulas
-exceeds Literals part brackets tally t = begins_literal part && nat_le 4096 tally.literals
-exceeds Arguments part brackets tally t = begins_argument_behind 64 part
-exceeds Variables part brackets tally t = nat_le 1025 (length (with_variables tally.variables (variable_as part t)))
-exceeds Nesting part brackets tally t = opens t && nat_le 250 brackets
+exceeds Clauses part brackets tally t = begins_formula part && nat_le MAX_FORMULAS tally.formulas
+exceeds Literals part brackets tally t = begins_literal part && nat_le MAX_LITERALS tally.literals
+exceeds Arguments part brackets tally t = begins_argument_behind MAX_ARGUMENTS part
+exceeds Variables part brackets tally t = nat_lt MAX_VARIABLES (length (with_variables tally.variables (variable_as part t)))
+exceeds Nesting part brackets tally t = opens t && nat_le MAX_BRACKETS brackets
 
 abbrev pub passes_at : Which → Reading → Terminal → Bool
 passes_at which r t = exceeds which (part_at r.state t) (open_brackets r.state) r.tally t

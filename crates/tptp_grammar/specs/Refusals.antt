@@ -8,7 +8,7 @@ use Rattle.tptp_grammar.specs.Printed.{Printed}
 use Rattle.tptp_grammar.specs.declared.part.Part.{Part}
 use Rattle.tptp_grammar.specs.declared.part.Part.TheVariants.{Role as RolePart, Positive as PositivePart, Atom as AtomPart, Argument as ArgumentPart}
 use Rattle.tptp_grammar.specs.Limits.{passes, begins_formula}
-use Rattle.tptp_grammar.specs.Files.{IsWritten, Begins, IsWithin, IsFront}
+use Rattle.tptp_grammar.specs.Files.{IsWritten, BeginsFile, PassesNoLimit, IsFileFront}
 use Rattle.tptp_grammar.specs.declared.refusal.What.{What}
 use Rattle.tptp_grammar.specs.declared.refusal.What.TheVariants as what
 use Rattle.tptp_grammar.specs.declared.refusal.Which.{Which}
@@ -36,7 +36,7 @@ pub record MayBegin (p : Part → Bool) (before : List Terminal) : Type 0 where
   pub front : List Printed
   pub token : Printed
   pub after : List Printed
-  pub first : IsFront before front (token ∷ after)
+  pub first : IsFileFront before front (token ∷ after)
   pub begins : p token.part ≡ true
 
 -- the last of these tokens may be the last token of an atom
@@ -44,7 +44,7 @@ pub record MayEndAtom (before : List Terminal) : Type 0 where
   pub front : List Printed
   pub token : Printed
   pub after : List Printed
-  pub first : IsFront before (front ++ token ∷ []) after
+  pub first : IsFileFront before (front ++ token ∷ []) after
   pub ends : token.ends_atom ≡ true
 
 -- ---- which tokens are refused as what
@@ -61,9 +61,9 @@ abbrev pub is_conjecture : Terminal → Bool
 is_conjecture (LowerWord text) = bytes_eq text (codes "conjecture")
 is_conjecture t = false
 
-abbrev pub is_lower_word : Terminal → Bool
-is_lower_word (LowerWord text) = true
-is_lower_word t = false
+abbrev pub is_lower_word_token : Terminal → Bool
+is_lower_word_token (LowerWord text) = true
+is_lower_word_token t = false
 
 abbrev pub is_equality : Terminal → Bool
 is_equality Equality = true
@@ -88,42 +88,42 @@ abbrev pub IsInappropriate : What → List Terminal → Terminal → Type 0
 IsInappropriate what.Language before t = (is_language t ≡ true) × MayBegin begins_formula before
 IsInappropriate what.Include before t = (is_include t ≡ true) × MayBegin begins_formula before
 IsInappropriate what.Conjecture before t = (is_conjecture t ≡ true) × MayBegin begins_role before
-IsInappropriate what.Role before t = (is_lower_word t ≡ true) × (is_conjecture t ≡ false) × MayBegin begins_role before
+IsInappropriate what.Role before t = (is_lower_word_token t ≡ true) × (is_conjecture t ≡ false) × MayBegin begins_role before
 IsInappropriate what.Equality before t = ((is_equality t ≡ true) × MayEndAtom before) ⊎ ((is_variable_or_distinct t ≡ true) × MayBegin begins_atom before)
 IsInappropriate what.Number before t = (is_number t ≡ true) × (MayBegin begins_atom before ⊎ MayBegin begins_argument before)
 IsInappropriate what.Defined before t = (is_dollar_word t ≡ true) × (MayBegin begins_atom before ⊎ MayBegin begins_argument before)
 
 -- the lines of the limits before this one
-abbrev pub earlier : Which → List Which
-earlier Clauses = []
-earlier Literals = Clauses ∷ []
-earlier Arguments = Clauses ∷ Literals ∷ []
-earlier Variables = Clauses ∷ Literals ∷ Arguments ∷ []
-earlier Nesting = Clauses ∷ Literals ∷ Arguments ∷ Variables ∷ []
+abbrev pub earlier_limits : Which → List Which
+earlier_limits Clauses = []
+earlier_limits Literals = Clauses ∷ []
+earlier_limits Arguments = Clauses ∷ Literals ∷ []
+earlier_limits Variables = Clauses ∷ Literals ∷ Arguments ∷ []
+earlier_limits Nesting = Clauses ∷ Literals ∷ Arguments ∷ Variables ∷ []
 
 -- the tokens begin a file, and none of them passes a limit
-pub record IsOpen (before : List Terminal) : Type 0 where
+pub record IsUnrefused (before : List Terminal) : Type 0 where
   pub front : List Printed
   pub after : List Printed
-  pub first : IsFront before front after
-  pub within : IsWithin front
+  pub first : IsFileFront before front after
+  pub within : PassesNoLimit front
 
 -- The token passes this limit, none before it passes one, and it passes none of the limits of an earlier line.
 pub record IsPassed (which : Which) (before : List Terminal) (t : Terminal) : Type 0 where
   pub front : List Printed
   pub token : Printed
   pub after : List Printed
-  pub first : IsFront (before ++ t ∷ []) (front ++ token ∷ []) after
-  pub within : IsWithin front
+  pub first : IsFileFront (before ++ t ∷ []) (front ++ token ∷ []) after
+  pub within : PassesNoLimit front
   pub passed : passes which front token ≡ true
-  pub no_earlier : AllByRecursion (λ line. passes line front token ≡ false) (earlier which)
+  pub no_earlier : AllByRecursion (λ line. passes line front token ≡ false) (earlier_limits which)
 
 -- The token t is the first refused one, behind these, and this is the cause.
-abbrev pub IsRefused : Refusal → List Terminal → Terminal → Type 0
-IsRefused Syntax before t = IsOpen before × (Begins (before ++ t ∷ []) → ⊥) × ((w : What) → IsInappropriate w before t → ⊥)
-IsRefused (Inappropriate w) before t = IsOpen before × (Begins (before ++ t ∷ []) → ⊥) × IsInappropriate w before t
-IsRefused (Limit which) before t = IsPassed which before t
+abbrev pub IsRefusalOf : Refusal → List Terminal → Terminal → Type 0
+IsRefusalOf Syntax before t = IsUnrefused before × (BeginsFile (before ++ t ∷ []) → ⊥) × ((w : What) → IsInappropriate w before t → ⊥)
+IsRefusalOf (Inappropriate w) before t = IsUnrefused before × (BeginsFile (before ++ t ∷ []) → ⊥) × IsInappropriate w before t
+IsRefusalOf (Limit which) before t = IsPassed which before t
 
 -- No token is refused, but the file ends too early.
 abbrev pub IsCutShort : List Terminal → Type 0
-IsCutShort tokens = IsOpen tokens × ((file : List WrittenFormula) → IsWritten tokens file → ⊥)
+IsCutShort tokens = IsUnrefused tokens × ((file : List WrittenFormula) → IsWritten tokens file → ⊥)

@@ -11,28 +11,28 @@ use Rattle.tptp_grammar.specs.declared.place.Stage.{Stage}
 use Rattle.tptp_grammar.specs.declared.place.Place.{Place}
 use Rattle.tptp_grammar.specs.declared.place.Stage.TheVariants.{Between, Begun, Opened, Labelled, LabelEnd, Roled, FormulaStart, LiteralStart, Negated, AtomStart, ArgumentStart, Named, Done, LiteralEnd, FormulaEnd, NotesStart, Notes, Closed}
 
-abbrev pub state_at : Stage → Place → State
-state_at Between p = machine.Between
-state_at Begun p = machine.Begun
-state_at Opened p = machine.Opened
-state_at Labelled p = machine.Labelled
-state_at LabelEnd p = machine.LabelEnd
-state_at Roled p = machine.Roled
-state_at FormulaStart p = machine.FormulaStart p.brackets
-state_at LiteralStart p = machine.LiteralStart p.brackets
-state_at Negated p = machine.Negated p.brackets
-state_at AtomStart p = machine.AtomStart p.brackets
-state_at ArgumentStart p = machine.ArgumentStart p.number (reverse p.arguments.items) p.in_brackets p.brackets
-state_at Named p = machine.Named (reverse p.arguments.items) p.in_brackets p.brackets
-state_at Done p = machine.Done (reverse p.arguments.items) p.in_brackets p.brackets
-state_at LiteralEnd p = machine.LiteralEnd p.brackets
-state_at FormulaEnd p = machine.FormulaEnd p.brackets
-state_at NotesStart p = machine.NotesStart
-state_at Notes p = machine.Notes (reverse p.notes.items)
-state_at Closed p = machine.Closed
+abbrev pub state_of_stage : Stage → Place → State
+state_of_stage Between p = machine.Between
+state_of_stage Begun p = machine.Begun
+state_of_stage Opened p = machine.Opened
+state_of_stage Labelled p = machine.Labelled
+state_of_stage LabelEnd p = machine.LabelEnd
+state_of_stage Roled p = machine.Roled
+state_of_stage FormulaStart p = machine.FormulaStart p.brackets
+state_of_stage LiteralStart p = machine.LiteralStart p.brackets
+state_of_stage Negated p = machine.Negated p.brackets
+state_of_stage AtomStart p = machine.AtomStart p.brackets
+state_of_stage ArgumentStart p = machine.ArgumentStart p.number (reverse p.arguments.items) p.in_brackets p.brackets
+state_of_stage Named p = machine.Named (reverse p.arguments.items) p.in_brackets p.brackets
+state_of_stage Done p = machine.Done (reverse p.arguments.items) p.in_brackets p.brackets
+state_of_stage LiteralEnd p = machine.LiteralEnd p.brackets
+state_of_stage FormulaEnd p = machine.FormulaEnd p.brackets
+state_of_stage NotesStart p = machine.NotesStart
+state_of_stage Notes p = machine.Notes (reverse p.notes.items)
+state_of_stage Closed p = machine.Closed
 
 abbrev pub state_of : Place → State
-state_of p = state_at p.stage p
+state_of p = state_of_stage p.stage p
 
 -- a stage in which no literal has begun, or the line is closed
 abbrev pub IsHeader : Stage → Type 0

@@ -2,36 +2,23 @@
 //!
 //! It takes one token after another, and says what each is in the file. It refuses the first token with
 //! which no file goes on, or which passes a limit, with the cause.
-ghost use Rattle.std.specs.Prelude.{◌≡◌, ◌&&◌, ℕ, [], ◌∷◌, true, false, length, nat_le, map, reverse, Some, None, OnOk, IfOk, IfSome, IfErr, IsTrue, ◌↔◌};
+ghost use Rattle.std.specs.Prelude.{◌≡◌, ◌&&◌, ◌-◌, ◌^◌, ℕ, [], ◌∷◌, true, false, length, nat_le, nat_lt, map, reverse, Some, None, OnOk, IfOk, IfSome, IfErr, IsTrue, ◌↔◌};
 ghost use Rattle.tptp_grammar.specs.Machine as spec;
 ghost use Rattle.tptp_grammar.specs.Terminals as terminal;
 ghost use Rattle.tptp_grammar.specs.Readings as readings;
 ghost use Rattle.tptp_grammar.specs.Limits as limits;
+ghost use Rattle.tptp_grammar.specs.declared.limits.TheConstants.{MAX_FORMULAS, MAX_LITERALS, MAX_ARGUMENTS, MAX_VARIABLES, MAX_BRACKETS};
 ghost use Rattle.tptp_grammar.specs.Refusals as refusals;
 ghost use Rattle.tptp_grammar.specs.Views.{is_opening};
 
 use crate::kind::refusal;
+use crate::limits::{MAX_ARGUMENTS, MAX_BRACKETS, MAX_FORMULAS, MAX_LITERALS, MAX_VARIABLES};
 use crate::part::Part;
 use crate::place::{Place, Stage};
 use crate::refusal::{Refusal, What, Which};
 use indexmap::IndexSet;
 use std::alloc::{AllocError, AllocFailed, Global};
 use tptp_tokens::{Token, TokenKind};
-
-/// The greatest number of formulas in a file.
-const MAX_FORMULAS: u32 = 1_048_576;
-
-/// The greatest number of literals in a formula.
-const MAX_LITERALS: u32 = 4096;
-
-/// The greatest number of arguments of a symbol.
-const MAX_ARGUMENTS: u32 = 64;
-
-/// The greatest number of variables in a formula.
-const MAX_VARIABLES: usize = 1024;
-
-/// The greatest number of brackets that are open at once.
-const MAX_BRACKETS: u64 = 250;
 
 /// Why a machine does not go on.
 #[derive(Clone, Copy, Debug, PartialEq, Eq)]
@@ -103,11 +90,11 @@ pub struct Machine<'a> {
 
 impl<'a> Machine<'a> {
     ghost use Rattle.tptp_grammar.specs.Views.{terminal_of, state_of};
-    ghost use Rattle.tptp_grammar.specs.MachineViews.{reading, tally_of, counted_part, Tells};
+    ghost use Rattle.tptp_grammar.specs.MachineViews.{reading, tally_of, counted_part, TellsVerdict};
 
     /// Nothing is read so far.
     pub fn new(alloc: Global) -> Self
-        ensures { reading result ≡ readings.start }
+        ensures { reading result ≡ readings.start_reading }
     {
         Machine {
             place: Place::new(alloc),
@@ -130,7 +117,7 @@ impl<'a> Machine<'a> {
 
     /// The first of the limits of formulas, literals and arguments that a token of this part passes.
     fn limit_of_part(&self, part: Part) -> Option<Which>
-        ensures { result ≡ readings.first_of (limits.begins_formula part && nat_le 1048576 self.now.formulas) (limits.begins_literal part && nat_le 4096 self.now.literals) (limits.begins_argument_behind 64 part) false false }
+        ensures { result ≡ readings.first_of (limits.begins_formula part && nat_le MAX_FORMULAS self.now.formulas) (limits.begins_literal part && nat_le MAX_LITERALS self.now.literals) (limits.begins_argument_behind MAX_ARGUMENTS part) false false }
     {
         match part {
             Part::Formula if self.formulas >= MAX_FORMULAS => Some(Which::Clauses),
@@ -145,16 +132,16 @@ impl<'a> Machine<'a> {
     /// Whether the token opens a bracket where as many are open as may be.
     #[tactic(auto, using(crate::proofs::Steps::opening_is))]
     fn is_too_deep(&self, token: &Token<'_>) -> bool
-        ensures { result ≡ (limits.opens (terminal_of token.now) && nat_le 250 (spec.open_brackets (state_of self.now.place))) }
+        ensures { result ≡ (limits.opens (terminal_of token.now) && nat_le MAX_BRACKETS (spec.open_brackets (state_of self.now.place))) }
     {
-        opens(token.kind) && self.place.open_brackets() >= MAX_BRACKETS
+        opens(token.kind) && self.place.open_brackets() >= u64::from(MAX_BRACKETS)
     }
 
     /// The limit of variables, where they are too many, or that of brackets, where the token was too deep.
     fn limit_of_all(&self, is_too_deep: bool) -> Option<Which>
-        ensures { result ≡ readings.first_of false false false (nat_le 1025 (length (tally_of self.now).variables)) is_too_deep }
+        ensures { result ≡ readings.first_of false false false (nat_lt MAX_VARIABLES (length (tally_of self.now).variables)) is_too_deep }
     {
-        if self.variables.len() > MAX_VARIABLES {
+        if self.variables.len() > MAX_VARIABLES as usize {
             Some(Which::Variables)
         } else if is_too_deep {
             Some(Which::Nesting)
@@ -165,7 +152,7 @@ impl<'a> Machine<'a> {
 
     /// Counts a token of this part.
     fn count(&mut self, part: Part)
-        requires { readings.first_of (limits.begins_formula part && nat_le 1048576 self.old.formulas) (limits.begins_literal part && nat_le 4096 self.old.literals) (limits.begins_argument_behind 64 part) false false ≡ None }
+        requires { readings.first_of (limits.begins_formula part && nat_le MAX_FORMULAS self.old.formulas) (limits.begins_literal part && nat_le MAX_LITERALS self.old.literals) (limits.begins_argument_behind MAX_ARGUMENTS part) false false ≡ None }
         ensures tally { tally_of self.new ≡ counted_part part (tally_of self.old) }
         ensures place { self.new.place ≡ self.old.place }
     {
@@ -180,11 +167,13 @@ impl<'a> Machine<'a> {
         }
     }
 
-    /// Takes a token, and says what it is in the file. After an `Err` the machine is of no use.
+    /// Takes a token, and says what it is in the file. After an `Err` the machine is of no use. With each
+    /// token what is counted grows by at most one, so at least 2^32 - 2 tokens can be taken.
     pub fn step(&mut self, token: &Token<'a>) -> Result<Part, StepError>
+        requires { spec.CountsUpTo (2 ^ 32 - 2) (reading self.old).state }
         ensures goes { OnOk result (readings.verdict (reading self.old) (terminal_of token.now) ≡ readings.GoesOn (reading self.new)) }
         ensures part { IfOk result (λ part. part ≡ spec.part_at (reading self.old).state (terminal_of token.now)) }
-        ensures refused { IfErr result (Tells (readings.verdict (reading self.old) (terminal_of token.now))) }
+        ensures refused { IfErr result (TellsVerdict (readings.verdict (reading self.old) (terminal_of token.now))) }
     {
         let part = self.place.part(token);
         let is_too_deep = self.is_too_deep(token);

@@ -2,7 +2,8 @@
 //!
 //! The place is the state of a machine that takes one token after another. It refuses the first token
 //! with which no file of the grammar goes on.
-ghost use Rattle.std.specs.Prelude.{◌≡◌, ℕ, List, [], true, false, ◌∷◌, reverse, Some, None, IfOk, if◌then◌else◌};
+ghost use Rattle.std.specs.Prelude.{◌≡◌, ◌≤◌, ◌-◌, ◌^◌, ℕ, List, [], true, false, ◌∷◌, reverse, Some, None, IfOk, if◌then◌else◌};
+ghost use Rattle.std.specs.List.{AllByRecursion};
 ghost use Rattle.tptp_grammar.specs.Terminals.{is_role as role_word};
 ghost use Rattle.tptp_grammar.specs.Machine as spec;
 ghost use Rattle.tptp_grammar.specs.Terminals as terminal;
@@ -92,7 +93,7 @@ fn is_truth(word: &[u8]) -> bool
 }
 
 impl Place {
-    ghost use Rattle.tptp_grammar.specs.Views.{state_of, state_at, terminal_of, IsHeader};
+    ghost use Rattle.tptp_grammar.specs.Views.{state_of, state_of_stage, terminal_of, IsHeader};
     ghost use Rattle.tptp_grammar.specs.declared.place.Stage.TheVariants.{NotesStart};
 
     /// Nothing is read so far.
@@ -144,7 +145,7 @@ impl Place {
 
     /// Takes the round bracket that closes those round the literals, or the line.
     fn close(&mut self)
-        ensures { state_of self.new ≡ spec.closed self.old.brackets }
+        ensures { state_of self.new ≡ spec.after_bracket self.old.brackets }
     {
         if self.brackets == 0 {
             self.stage = Stage::Closed;
@@ -215,38 +216,40 @@ impl Place {
     }
 
     /// Goes on behind a term or an atom; else answers false and changes nothing.
-    fn done(&mut self, token: &Token<'_>) -> Result<bool, AllocError>
-        ensures goes { IfOk result (λ b. b ≡ true → spec.step_done (reverse self.old.arguments.items) self.old.in_brackets self.old.brackets (terminal_of token.now) ≡ Some (state_of self.new)) }
-        ensures stops { IfOk result (λ b. b ≡ false → spec.step_done (reverse self.old.arguments.items) self.old.in_brackets self.old.brackets (terminal_of token.now) ≡ None) }
-        ensures same { IfOk result (λ b. b ≡ false → self.new ≡ self.old) }
+    fn done(&mut self, token: &Token<'_>) -> bool
+        requires { AllByRecursion (λ n. n ≤ 2 ^ 32 - 2) (reverse self.old.arguments.items) }
+        ensures goes { result ≡ true → spec.step_done (reverse self.old.arguments.items) self.old.in_brackets self.old.brackets (terminal_of token.now) ≡ Some (state_of self.new) }
+        ensures stops { result ≡ false → spec.step_done (reverse self.old.arguments.items) self.old.in_brackets self.old.brackets (terminal_of token.now) ≡ None }
+        ensures same { result ≡ false → self.new ≡ self.old }
     {
         let last = match self.arguments.last() {
-            None => return Ok(self.atom_end(token)),
+            None => return self.atom_end(token),
             Some(last) => *last,
         };
         match token.kind {
             TokenKind::Comma => {
-                self.number = last.checked_add(1).ok_or(AllocError)?;
+                self.number = last + 1;
                 self.stage = Stage::ArgumentStart;
             }
             TokenKind::CloseRound => self.stage = Stage::Done,
-            _ => return Ok(false),
+            _ => return false,
         }
         let _ = self.arguments.pop();
-        Ok(true)
+        true
     }
 
     /// Goes on behind a name; else answers false and changes nothing.
-    fn named(&mut self, token: &Token<'_>) -> Result<bool, AllocError>
-        ensures goes { IfOk result (λ b. b ≡ true → spec.step_named (reverse self.old.arguments.items) self.old.in_brackets self.old.brackets (terminal_of token.now) ≡ Some (state_of self.new)) }
-        ensures stops { IfOk result (λ b. b ≡ false → spec.step_named (reverse self.old.arguments.items) self.old.in_brackets self.old.brackets (terminal_of token.now) ≡ None) }
-        ensures same { IfOk result (λ b. b ≡ false → self.new ≡ self.old) }
+    fn named(&mut self, token: &Token<'_>) -> bool
+        requires { AllByRecursion (λ n. n ≤ 2 ^ 32 - 2) (reverse self.old.arguments.items) }
+        ensures goes { result ≡ true → spec.step_named (reverse self.old.arguments.items) self.old.in_brackets self.old.brackets (terminal_of token.now) ≡ Some (state_of self.new) }
+        ensures stops { result ≡ false → spec.step_named (reverse self.old.arguments.items) self.old.in_brackets self.old.brackets (terminal_of token.now) ≡ None }
+        ensures same { result ≡ false → self.new ≡ self.old }
     {
         match token.kind {
             TokenKind::OpenRound => {
                 self.number = 1;
                 self.stage = Stage::ArgumentStart;
-                Ok(true)
+                true
             }
             _ => self.done(token),
         }
@@ -337,18 +340,19 @@ impl Place {
     }
 
     /// Goes on with a token where the literals begin; else answers false and changes nothing.
-    fn formula(&mut self, token: &Token<'_>) -> Result<bool, AllocError>
-        ensures goes { IfOk result (λ b. b ≡ true → spec.step_formula_start self.old.brackets (terminal_of token.now) ≡ Some (state_of self.new)) }
-        ensures stops { IfOk result (λ b. b ≡ false → spec.step_formula_start self.old.brackets (terminal_of token.now) ≡ None) }
-        ensures same { IfOk result (λ b. b ≡ false → self.new ≡ self.old) }
+    fn formula(&mut self, token: &Token<'_>) -> bool
+        requires { self.old.brackets ≤ 2 ^ 32 - 2 }
+        ensures goes { result ≡ true → spec.step_formula_start self.old.brackets (terminal_of token.now) ≡ Some (state_of self.new) }
+        ensures stops { result ≡ false → spec.step_formula_start self.old.brackets (terminal_of token.now) ≡ None }
+        ensures same { result ≡ false → self.new ≡ self.old }
     {
         match token.kind {
             TokenKind::OpenRound => {
-                self.brackets = self.brackets.checked_add(1).ok_or(AllocError)?;
+                self.brackets += 1;
                 self.stage = Stage::FormulaStart;
-                Ok(true)
+                true
             }
-            _ => Ok(self.literal(token)),
+            _ => self.literal(token),
         }
     }
 
@@ -371,8 +375,8 @@ impl Place {
     /// answers false and changes nothing.
     fn header(&mut self, stage: Stage, token: &Token<'_>) -> bool
         requires { IsHeader stage }
-        ensures goes { result ≡ true → spec.step (state_at stage self.old) (terminal_of token.now) ≡ Some (state_of self.new) }
-        ensures stops { result ≡ false → spec.step (state_at stage self.old) (terminal_of token.now) ≡ None }
+        ensures goes { result ≡ true → spec.step (state_of_stage stage self.old) (terminal_of token.now) ≡ Some (state_of self.new) }
+        ensures stops { result ≡ false → spec.step (state_of_stage stage self.old) (terminal_of token.now) ≡ None }
         ensures same { result ≡ false → self.new ≡ self.old }
     {
         let next = match (stage, token.kind) {
@@ -396,18 +400,19 @@ impl Place {
 
     /// Goes on with a token. Where no file goes on with it, it answers false and is at the same place.
     pub(crate) fn advance(&mut self, token: &Token<'_>) -> Result<bool, AllocError>
+        requires { spec.CountsUpTo (2 ^ 32 - 2) (state_of self.old) }
         ensures same { IfOk result (λ b. b ≡ false → state_of self.new ≡ state_of self.old) }
         ensures goes { IfOk result (λ b. b ≡ true → spec.step (state_of self.old) (terminal_of token.now) ≡ Some (state_of self.new)) }
         ensures stops { IfOk result (λ b. b ≡ false → spec.step (state_of self.old) (terminal_of token.now) ≡ None) }
     {
         match self.stage {
-            Stage::FormulaStart => self.formula(token),
+            Stage::FormulaStart => Ok(self.formula(token)),
             Stage::LiteralStart => Ok(self.literal(token)),
             Stage::Negated => Ok(self.negated(token)),
             Stage::AtomStart => Ok(self.atom(true, token)),
             Stage::ArgumentStart => self.argument(token),
-            Stage::Named => self.named(token),
-            Stage::Done => self.done(token),
+            Stage::Named => Ok(self.named(token)),
+            Stage::Done => Ok(self.done(token)),
             Stage::LiteralEnd => Ok(self.literal_end(token)),
             Stage::FormulaEnd => Ok(self.formula_end(token)),
             Stage::NotesStart => self.notes_start(token),

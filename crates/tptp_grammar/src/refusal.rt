@@ -25,15 +25,15 @@ pub enum What {
 /// The limit that a file passes.
 #[derive(Clone, Copy, Debug, PartialEq, Eq)]
 pub enum Which {
-    /// 1,048,576 formulas in a file.
+    /// `MAX_FORMULAS` formulas in a file.
     Clauses,
-    /// 4,096 literals in a formula.
+    /// `MAX_LITERALS` literals in a formula.
     Literals,
-    /// 1,024 variables in a formula.
+    /// `MAX_VARIABLES` variables in a formula.
     Variables,
-    /// 64 arguments of a symbol.
+    /// `MAX_ARGUMENTS` arguments of a symbol.
     Arguments,
-    /// 250 round and square brackets open at once.
+    /// `MAX_BRACKETS` round and square brackets open at once.
     Nesting,
 }
 

@@ -5,18 +5,18 @@ use Rattle.std.proofs.lemmas.List.{append_cancel_right}
 use Rattle.std.specs.Prelude.{◌⊎◌, ◌==◌, if◌then◌else◌}
 use Rattle.std.specs.List.{list_all}
 use Rattle.me_terms.specs.Labels.{is_digit, is_printable}
-use Rattle.tptp_tokens.specs.Bytes.{is_word_byte, is_other_sign}
-use Rattle.tptp_tokens.specs.Founds.{IsClosed, BeginsSignsAlone}
+use Rattle.tptp_tokens.specs.Bytes.{is_lower_letter, is_upper_letter, is_word_byte, is_other_sign}
+use Rattle.tptp_tokens.specs.Founds.{IsClosedQuote, BeginsSignsAlone}
 use Rattle.tptp_tokens.specs.Fronts.{IsRun, IsAfter, HasNoFront}
 use Rattle.tptp_tokens.specs.Leads.{lead_of, sign_kind}
 use Rattle.tptp_tokens.specs.Numbers.{IsNumber}
 use Rattle.tptp_tokens.specs.Quoted.{escaped, unescaped}
-use Rattle.tptp_tokens.specs.Tokens.{IsText, written_as, written, text_as, IsLongest, IsFirstAs, IsBad, OpensComment, BeginsNone}
+use Rattle.tptp_tokens.specs.Tokens.{IsText, written_as, written, unquoted_text, IsLongest, IsFirstAs, IsBad, OpensComment, BeginsNone}
 use Rattle.tptp_tokens.specs.declared.lead.Lead.{Lead}
 use Rattle.tptp_tokens.specs.declared.lead.Lead.TheVariants.{LowerLetter, UpperLetter, Dollar, SingleQuote, DoubleQuote, Numeric, Exclamation, Other}
 use Rattle.tptp_tokens.specs.declared.token.TokenKind.{TokenKind}
 use Rattle.tptp_tokens.specs.declared.token.TokenKind.TheVariants as kinds
-use Rattle.tptp_tokens.proofs.Runs.{heads, run_longest}
+use Rattle.tptp_tokens.proofs.Runs.{heads, run_longest, word_of}
 use Rattle.tptp_tokens.proofs.Quotes.{one_text, text_is, front_is}
 use Rattle.tptp_tokens.proofs.Leads.{Allowed, at, longest_at, none_at, no_comment, means, Means, NumberLed, number_led}
 
@@ -24,12 +24,12 @@ is_number : (b n : ℕ) → (b == n) ≡ true → b ≡ n
 is_number b n h = grind (arith, nat_tests)
 
 -- what is found, by equations
-pub found_is : (kind k : TokenKind) (inside bytes r rest : List ℕ) → k ≡ kind → r ≡ rest → IsFirstAs kind (text_as kind inside) bytes rest → IsFirstAs k (text_as k inside) bytes r
+pub found_is : (kind k : TokenKind) (inside bytes r rest : List ℕ) → k ≡ kind → r ≡ rest → IsFirstAs kind (unquoted_text kind inside) bytes rest → IsFirstAs k (unquoted_text k inside) bytes r
 found_is kind k inside bytes r rest e f h =
-    subst (λ (x : TokenKind). IsFirstAs x (text_as x inside) bytes r) (sym e) (subst (λ (x : List ℕ). IsFirstAs kind (text_as kind inside) bytes x) (sym f) h)
+    subst (λ (x : TokenKind). IsFirstAs x (unquoted_text x inside) bytes r) (sym e) (subst (λ (x : List ℕ). IsFirstAs kind (unquoted_text kind inside) bytes x) (sym f) h)
 
-pub bad_found : (k : TokenKind) (inside bytes r : List ℕ) → k ≡ kinds.Bad → inside ≡ bytes → r ≡ [] → IsBad bytes → IsFirstAs k (text_as k inside) bytes r
-bad_found k inside bytes r e f g h = subst (λ (x : TokenKind). IsFirstAs x (text_as x inside) bytes r) (sym e) (h, f, g)
+pub bad_found : (k : TokenKind) (inside bytes r : List ℕ) → k ≡ kinds.Bad → inside ≡ bytes → r ≡ [] → IsBad bytes → IsFirstAs k (unquoted_text k inside) bytes r
+bad_found k inside bytes r e f g h = subst (λ (x : TokenKind). IsFirstAs x (unquoted_text x inside) bytes r) (sym e) (h, f, g)
 
 some_bytes : (bytes : List ℕ) (b : ℕ) (after : List ℕ) → bytes ≡ b ∷ after → bytes ≢ []
 some_bytes bytes b after e n = let k : b ∷ after ≡ [] = sym e ∙ n in cc
@@ -59,33 +59,33 @@ meaning l b e = subst (λ (x : Lead). Means x b) e (means b)
 
 -- ---- words
 
-word_parts : (bytes : List ℕ) (b : ℕ) (after run rest : List ℕ) → bytes ≡ b ∷ after → after ≡ run ++ rest → bytes ≡ (b ∷ run) ++ rest
-word_parts bytes b after run rest e f = e ∙ ap (λ (x : List ℕ). b ∷ x) f
+head_parts : (bytes : List ℕ) (b : ℕ) (after run rest : List ℕ) → bytes ≡ b ∷ after → after ≡ run ++ rest → bytes ≡ (b ∷ run) ++ rest
+head_parts bytes b after run rest e f = e ∙ ap (λ (x : List ℕ). b ∷ x) f
 
-pub word_front : (bytes : List ℕ) (b : ℕ) (after rest : List ℕ) → bytes ≡ b ∷ after → (run : List ℕ) × IsRun is_word_byte after run rest → (text : List ℕ) × (bytes ≡ text ++ rest)
-word_front bytes b after rest e h = (b ∷ h.0, word_parts bytes b after h.0 rest e h.1.parts)
+pub word_front : (bytes : List ℕ) (b : ℕ) (after rest : List ℕ) → bytes ≡ b ∷ after → (run : List ℕ) × IsRun is_word_byte run after rest → (text : List ℕ) × (bytes ≡ text ++ rest)
+word_front bytes b after rest e h = (b ∷ h.0, head_parts bytes b after h.0 rest e h.1.parts)
 
-pub dollar_front : (bytes : List ℕ) (b : ℕ) (after second rest : List ℕ) → bytes ≡ b ∷ after → after ≡ 36 ∷ second → (run : List ℕ) × IsRun is_word_byte second run rest → (text : List ℕ) × (bytes ≡ text ++ rest)
+pub dollar_front : (bytes : List ℕ) (b : ℕ) (after second rest : List ℕ) → bytes ≡ b ∷ after → after ≡ 36 ∷ second → (run : List ℕ) × IsRun is_word_byte run second rest → (text : List ℕ) × (bytes ≡ text ++ rest)
 dollar_front bytes b after second rest e f h = (b ∷ 36 ∷ h.0, e ∙ ap (λ (x : List ℕ). b ∷ x) (f ∙ ap (λ (x : List ℕ). 36 ∷ x) h.1.parts))
 
-pub lower_first : (bytes : List ℕ) (b : ℕ) (after inside rest : List ℕ) → bytes ≡ b ∷ after → lead_of b ≡ LowerLetter → (run : List ℕ) × IsRun is_word_byte after run rest → bytes ≡ inside ++ rest → IsFirstAs kinds.LowerWord inside bytes rest
+pub lower_first : (bytes : List ℕ) (b : ℕ) (after inside rest : List ℕ) → bytes ≡ b ∷ after → lead_of b ≡ LowerLetter → (run : List ℕ) × IsRun is_word_byte run after rest → bytes ≡ inside ++ rest → IsFirstAs kinds.LowerWord inside bytes rest
 lower_first bytes b after inside rest head lead h parts =
-    let same : inside ≡ b ∷ h.0 = inside_is bytes (b ∷ h.0) inside rest (word_parts bytes b after h.0 rest head h.1.parts) parts in (
-      plain_longest LowerLetter bytes b after kinds.LowerWord inside rest refl head lead (subst (λ (x : List ℕ). IsText kinds.LowerWord x) (sym same) (meaning LowerLetter b lead, h.1.each)) parts
+    let same : inside ≡ b ∷ h.0 = inside_is bytes (b ∷ h.0) inside rest (head_parts bytes b after h.0 rest head h.1.parts) parts in (
+      plain_longest LowerLetter bytes b after kinds.LowerWord inside rest refl head lead (subst (λ (x : List ℕ). IsText kinds.LowerWord x) (sym same) (word_of is_lower_letter b h.0 (meaning LowerLetter b lead) h.1.each)) parts
           (λ tail r p a. omega (arith, ap length same, run_longest is_word_byte h.0 rest tail r a h.1.stops (sym h.1.parts ∙ p))),
       no_comment bytes b after head (differs LowerLetter b lead (λ e. cc)),
     )
 
-pub upper_first : (bytes : List ℕ) (b : ℕ) (after inside rest : List ℕ) → bytes ≡ b ∷ after → lead_of b ≡ UpperLetter → (run : List ℕ) × IsRun is_word_byte after run rest → bytes ≡ inside ++ rest → IsFirstAs kinds.Variable inside bytes rest
+pub upper_first : (bytes : List ℕ) (b : ℕ) (after inside rest : List ℕ) → bytes ≡ b ∷ after → lead_of b ≡ UpperLetter → (run : List ℕ) × IsRun is_word_byte run after rest → bytes ≡ inside ++ rest → IsFirstAs kinds.Variable inside bytes rest
 upper_first bytes b after inside rest head lead h parts =
-    let same : inside ≡ b ∷ h.0 = inside_is bytes (b ∷ h.0) inside rest (word_parts bytes b after h.0 rest head h.1.parts) parts in (
-      plain_longest UpperLetter bytes b after kinds.Variable inside rest refl head lead (subst (λ (x : List ℕ). IsText kinds.Variable x) (sym same) (meaning UpperLetter b lead, h.1.each)) parts
+    let same : inside ≡ b ∷ h.0 = inside_is bytes (b ∷ h.0) inside rest (head_parts bytes b after h.0 rest head h.1.parts) parts in (
+      plain_longest UpperLetter bytes b after kinds.Variable inside rest refl head lead (subst (λ (x : List ℕ). IsText kinds.Variable x) (sym same) (word_of is_upper_letter b h.0 (meaning UpperLetter b lead) h.1.each)) parts
           (λ tail r p a. omega (arith, ap length same, run_longest is_word_byte h.0 rest tail r a h.1.stops (sym h.1.parts ∙ p))),
       no_comment bytes b after head (differs UpperLetter b lead (λ e. cc)),
     )
 
 -- behind two dollars
-two_dollars : (after second run rest : List ℕ) → after ≡ 36 ∷ second → IsRun is_word_byte second run rest → (tail r : List ℕ) → after ≡ tail ++ r → Allowed Dollar 36 tail → length tail ≤ 1 + length run
+two_dollars : (after second run rest : List ℕ) → after ≡ 36 ∷ second → IsRun is_word_byte run second rest → (tail r : List ℕ) → after ≡ tail ++ r → Allowed Dollar 36 tail → length tail ≤ 1 + length run
 two_dollars after second run rest f h tail r p a = go a.1
   where
     go : ((tail ≡ a.0) ⊎ (tail ≡ 36 ∷ a.0)) → length tail ≤ 1 + length run
@@ -93,14 +93,14 @@ two_dollars after second run rest f h tail r p a = go a.1
     go (inr e) = omega (arith, ap length e, run_longest is_word_byte run rest a.0 r a.2 h.stops (sym h.parts ∙ (heads 36 36 second (a.0 ++ r) (sym f ∙ p ∙ ap (λ (x : List ℕ). x ++ r) e)).1))
 
 -- behind one dollar
-one_dollar : (after run rest : List ℕ) → ((second : List ℕ) → after ≡ 36 ∷ second → ⊥) → IsRun is_word_byte after run rest → (tail r : List ℕ) → after ≡ tail ++ r → Allowed Dollar 36 tail → length tail ≤ length run
+one_dollar : (after run rest : List ℕ) → ((second : List ℕ) → after ≡ 36 ∷ second → ⊥) → IsRun is_word_byte run after rest → (tail r : List ℕ) → after ≡ tail ++ r → Allowed Dollar 36 tail → length tail ≤ length run
 one_dollar after run rest none h tail r p a = go a.1
   where
     go : ((tail ≡ a.0) ⊎ (tail ≡ 36 ∷ a.0)) → length tail ≤ length run
     go (inl e) = omega (arith, ap length e, run_longest is_word_byte run rest a.0 r a.2 h.stops (sym h.parts ∙ p ∙ ap (λ (x : List ℕ). x ++ r) e))
     go (inr e) = absurd (none (a.0 ++ r) (p ∙ ap (λ (x : List ℕ). x ++ r) e))
 
-pub two_dollars_first : (bytes : List ℕ) (b : ℕ) (after second inside rest : List ℕ) → bytes ≡ b ∷ after → lead_of b ≡ Dollar → after ≡ 36 ∷ second → (run : List ℕ) × IsRun is_word_byte second run rest → bytes ≡ inside ++ rest → IsFirstAs kinds.DollarWord inside bytes rest
+pub two_dollars_first : (bytes : List ℕ) (b : ℕ) (after second inside rest : List ℕ) → bytes ≡ b ∷ after → lead_of b ≡ Dollar → after ≡ 36 ∷ second → (run : List ℕ) × IsRun is_word_byte run second rest → bytes ≡ inside ++ rest → IsFirstAs kinds.DollarWord inside bytes rest
 unfolding dollar_front
 two_dollars_first bytes b after second inside rest head lead f h parts =
     let same : inside ≡ b ∷ 36 ∷ h.0 = inside_is bytes (b ∷ 36 ∷ h.0) inside rest (dollar_front bytes b after second rest head f h).1 parts in
@@ -110,9 +110,9 @@ two_dollars_first bytes b after second inside rest head lead f h parts =
       no_comment bytes b after head (differs Dollar b lead (λ e. cc)),
     )
 
-pub one_dollar_first : (bytes : List ℕ) (b : ℕ) (after inside rest : List ℕ) → bytes ≡ b ∷ after → lead_of b ≡ Dollar → ((second : List ℕ) → after ≡ 36 ∷ second → ⊥) → (run : List ℕ) × IsRun is_word_byte after run rest → bytes ≡ inside ++ rest → IsFirstAs kinds.DollarWord inside bytes rest
+pub one_dollar_first : (bytes : List ℕ) (b : ℕ) (after inside rest : List ℕ) → bytes ≡ b ∷ after → lead_of b ≡ Dollar → ((second : List ℕ) → after ≡ 36 ∷ second → ⊥) → (run : List ℕ) × IsRun is_word_byte run after rest → bytes ≡ inside ++ rest → IsFirstAs kinds.DollarWord inside bytes rest
 one_dollar_first bytes b after inside rest head lead none h parts =
-    let same : inside ≡ b ∷ h.0 = inside_is bytes (b ∷ h.0) inside rest (word_parts bytes b after h.0 rest head h.1.parts) parts in
+    let same : inside ≡ b ∷ h.0 = inside_is bytes (b ∷ h.0) inside rest (head_parts bytes b after h.0 rest head h.1.parts) parts in
     let is36 : b ≡ 36 = meaning Dollar b lead in (
       plain_longest Dollar bytes b after kinds.DollarWord inside rest refl head lead (h.0, inl (same ∙ ap (λ (x : ℕ). x ∷ h.0) is36), h.1.each) parts
           (λ tail r p a. omega (arith, ap length same, one_dollar after h.0 rest none h.1 tail r p a)),
@@ -122,15 +122,15 @@ one_dollar_first bytes b after inside rest head lead none h parts =
 -- ---- quotes
 
 -- a text that is written behind a quote is closed
-closes : (q : ℕ) (after text r : List ℕ) → list_all is_printable text ≡ true → after ≡ (escaped q text ++ q ∷ []) ++ r → IsClosed q after (escaped q text) r
+closes : (q : ℕ) (after text r : List ℕ) → list_all is_printable text ≡ true → after ≡ (escaped q text ++ q ∷ []) ++ r → IsClosedQuote q (escaped q text) after r
 closes q after text r h e = record { text = text; each = h; is = refl; parts = e ∙ append_assoc (escaped q text) (q ∷ []) r }
 
-quote_parts : (q : ℕ) (bytes : List ℕ) (b : ℕ) (after inside rest : List ℕ) → bytes ≡ b ∷ after → b ≡ q → (c : IsClosed q after inside rest) → bytes ≡ (q ∷ (escaped q c.text ++ q ∷ [])) ++ rest
+quote_parts : (q : ℕ) (bytes : List ℕ) (b : ℕ) (after inside rest : List ℕ) → bytes ≡ b ∷ after → b ≡ q → (c : IsClosedQuote q inside after rest) → bytes ≡ (q ∷ (escaped q c.text ++ q ∷ [])) ++ rest
 quote_parts q bytes b after inside rest head e c =
     head ∙ ap (λ (x : ℕ). x ∷ after) e ∙ ap (λ (x : List ℕ). q ∷ x) (c.parts ∙ ap (λ (x : List ℕ). x ++ q ∷ rest) c.is ∙ sym (append_assoc (escaped q c.text) (q ∷ []) rest))
 
 -- each text that is closed is the same
-same_text : (q : ℕ) (after inside rest text r : List ℕ) → q ≢ 92 → (c : IsClosed q after inside rest) → after ≡ (escaped q text ++ q ∷ []) ++ r → c.text ≡ text
+same_text : (q : ℕ) (after inside rest text r : List ℕ) → q ≢ 92 → (c : IsClosedQuote q inside after rest) → after ≡ (escaped q text ++ q ∷ []) ++ r → c.text ≡ text
 same_text q after inside rest text r n c e =
     (one_text q c.text text rest r n (ap (λ (x : List ℕ). x ++ q ∷ rest) (sym c.is) ∙ sym c.parts ∙ e ∙ append_assoc (escaped q text) (q ∷ []) r)).0
 
@@ -150,7 +150,7 @@ is_empty v (b ∷ x) e h = let k : (length (b ∷ x) == 0) ≡ true = sym e ∙ 
 pub is_some : (v : Bool) (x : List ℕ) → v ≡ (length x == 0) → v ≡ false → x ≢ []
 is_some v x e h n = let k : (length x == 0) ≡ true = ap (λ (y : List ℕ). length y == 0) n in cc
 
-pub single_first : (bytes : List ℕ) (b : ℕ) (after inside rest : List ℕ) → bytes ≡ b ∷ after → lead_of b ≡ SingleQuote → IsClosed 39 after inside rest → inside ≢ [] → IsFirstAs kinds.SingleQuoted (unescaped inside) bytes rest
+pub single_first : (bytes : List ℕ) (b : ℕ) (after inside rest : List ℕ) → bytes ≡ b ∷ after → lead_of b ≡ SingleQuote → IsClosedQuote 39 inside after rest → inside ≢ [] → IsFirstAs kinds.SingleQuoted (unescaped inside) bytes rest
 single_first bytes b after inside rest head lead c n =
     subst (λ (x : List ℕ). IsFirstAs kinds.SingleQuoted x bytes rest) (sym (text_is 39 after inside rest c)) (
       longest_at SingleQuote bytes b after (record { kind = kinds.SingleQuoted; text = c.text }) rest head lead ((λ e. n (c.is ∙ ap (escaped 39) e)), c.each)
@@ -159,17 +159,17 @@ single_first bytes b after inside rest head lead c n =
       no_comment bytes b after head (differs SingleQuote b lead (λ e. cc)),
     )
 
-pub single_empty : (bytes : List ℕ) (b : ℕ) (after inside rest : List ℕ) → bytes ≡ b ∷ after → lead_of b ≡ SingleQuote → IsClosed 39 after inside rest → inside ≡ [] → IsBad bytes
+pub single_empty : (bytes : List ℕ) (b : ℕ) (after inside rest : List ℕ) → bytes ≡ b ∷ after → lead_of b ≡ SingleQuote → IsClosedQuote 39 inside after rest → inside ≡ [] → IsBad bytes
 single_empty bytes b after inside rest head lead c n =
     bad_none bytes b after head (none_at SingleQuote bytes b after head lead
     (λ tail r p a. a.1 (sym (same_text 39 after inside rest a.0 r not_39 c (p ∙ ap (λ (x : List ℕ). x ++ r) a.3)) ∙ sym (text_is 39 after inside rest c) ∙ ap (λ (x : List ℕ). unescaped x) n)))
 
-pub single_open : (bytes : List ℕ) (b : ℕ) (after : List ℕ) → bytes ≡ b ∷ after → lead_of b ≡ SingleQuote → ((inside rest : List ℕ) → IsClosed 39 after inside rest → ⊥) → IsBad bytes
+pub single_open : (bytes : List ℕ) (b : ℕ) (after : List ℕ) → bytes ≡ b ∷ after → lead_of b ≡ SingleQuote → ((inside rest : List ℕ) → IsClosedQuote 39 inside after rest → ⊥) → IsBad bytes
 single_open bytes b after head lead none =
     bad_none bytes b after head (none_at SingleQuote bytes b after head lead
     (λ tail r p a. none (escaped 39 a.0) r (closes 39 after a.0 r a.2 (p ∙ ap (λ (x : List ℕ). x ++ r) a.3))))
 
-pub distinct_first : (bytes : List ℕ) (b : ℕ) (after inside rest : List ℕ) → bytes ≡ b ∷ after → lead_of b ≡ DoubleQuote → IsClosed 34 after inside rest → IsFirstAs kinds.Distinct (unescaped inside) bytes rest
+pub distinct_first : (bytes : List ℕ) (b : ℕ) (after inside rest : List ℕ) → bytes ≡ b ∷ after → lead_of b ≡ DoubleQuote → IsClosedQuote 34 inside after rest → IsFirstAs kinds.Distinct (unescaped inside) bytes rest
 distinct_first bytes b after inside rest head lead c =
     subst (λ (x : List ℕ). IsFirstAs kinds.Distinct x bytes rest) (sym (text_is 34 after inside rest c)) (
       longest_at DoubleQuote bytes b after (record { kind = kinds.Distinct; text = c.text }) rest head lead c.each
@@ -178,7 +178,7 @@ distinct_first bytes b after inside rest head lead c =
       no_comment bytes b after head (differs DoubleQuote b lead (λ e. cc)),
     )
 
-pub distinct_open : (bytes : List ℕ) (b : ℕ) (after : List ℕ) → bytes ≡ b ∷ after → lead_of b ≡ DoubleQuote → ((inside rest : List ℕ) → IsClosed 34 after inside rest → ⊥) → IsBad bytes
+pub distinct_open : (bytes : List ℕ) (b : ℕ) (after : List ℕ) → bytes ≡ b ∷ after → lead_of b ≡ DoubleQuote → ((inside rest : List ℕ) → IsClosedQuote 34 inside after rest → ⊥) → IsBad bytes
 distinct_open bytes b after head lead none =
     bad_none bytes b after head (none_at DoubleQuote bytes b after head lead
     (λ tail r p a. none (escaped 34 a.0) r (closes 34 after a.0 r a.1 (p ∙ ap (λ (x : List ℕ). x ++ r) a.2))))
@@ -197,7 +197,7 @@ number_longest kind bytes inside rest w law h same = go (number_led h.0 h.1.has)
         each x head tail r p (inl a) = omega (arith, ap length same, h.1.longest (x.byte ∷ tail) r a (head ∙ ap (λ (y : List ℕ). x.byte ∷ y) p))
         each x head tail r p (inr a) = omega (arith, ap length same, ap length x.is, ap length a.0)
 
-pub number_first : (bytes inside rest : List ℕ) (k : TokenKind) → IsAfter IsNumber bytes rest → inside ≡ take (length bytes - length rest) bytes → k ≡ (if list_all is_digit inside then kinds.Digits else kinds.Number) → IsFirstAs k (text_as k inside) bytes rest
+pub number_first : (bytes inside rest : List ℕ) (k : TokenKind) → IsAfter IsNumber bytes rest → inside ≡ take (length bytes - length rest) bytes → k ≡ (if list_all is_digit inside then kinds.Digits else kinds.Number) → IsFirstAs k (unquoted_text k inside) bytes rest
 number_first bytes inside rest k h e f =
     found_is (if list_all is_digit inside then kinds.Digits else kinds.Number) k inside bytes rest rest f refl (go (list_all is_digit inside) refl)
   where
@@ -207,7 +207,7 @@ number_first bytes inside rest k h e f =
     some : inside ≢ []
     some n = let x = number_led h.0 h.1.has in let z : x.byte ∷ x.tail ≡ [] = sym x.is ∙ sym same ∙ n in cc
 
-    go : (v : Bool) → list_all is_digit inside ≡ v → IsFirstAs (if v then kinds.Digits else kinds.Number) (text_as (if v then kinds.Digits else kinds.Number) inside) bytes rest
+    go : (v : Bool) → list_all is_digit inside ≡ v → IsFirstAs (if v then kinds.Digits else kinds.Number) (unquoted_text (if v then kinds.Digits else kinds.Number) inside) bytes rest
     go true d = number_longest kinds.Digits bytes inside rest refl (some, d) h same
     go false d = number_longest kinds.Number bytes inside rest refl (subst IsNumber (sym same) h.1.has, λ x. let z : list_all is_digit inside ≡ true = x.1 in cc) h same
 
@@ -276,7 +276,7 @@ exact : (b n : ℕ) → (b == n) ≡ true → b ∷ [] ≡ n ∷ []
 exact b n h = ap (λ (x : ℕ). x ∷ []) (is_number b n h)
 
 abbrev SignFirst : ℕ → List ℕ → List ℕ → TokenKind → Type 0
-SignFirst b bytes after k = (k ≡ kinds.Bad → ⊥) → IsFirstAs k (text_as k (b ∷ [])) bytes after
+SignFirst b bytes after k = (k ≡ kinds.Bad → ⊥) → IsFirstAs k (unquoted_text k (b ∷ [])) bytes after
 
 sign_by_kind : (b : ℕ) (bytes after : List ℕ) → Alone b bytes after → SignFirst b bytes after (sign_kind b)
 sign_by_kind b bytes after a =
@@ -293,8 +293,8 @@ sign_by_kind b bytes after a =
     (λ n. absurd (n refl)))))))))))
 
 pub sign_first : (bytes : List ℕ) (b : ℕ) (after inside : List ℕ) (k : TokenKind) → bytes ≡ b ∷ after → BeginsSignsAlone b bytes → (OpensComment bytes → ⊥) → k ≡ sign_kind b → (k ≡ kinds.Bad → ⊥) → bytes ≡ inside ++ after
-    → IsFirstAs k (text_as k inside) bytes after
+    → IsFirstAs k (unquoted_text k inside) bytes after
 sign_first bytes b after inside k head signs none e n parts =
     let same : inside ≡ b ∷ [] = inside_is bytes (b ∷ []) inside after head parts in
     let first : SignFirst b bytes after k = subst (SignFirst b bytes after) (sym e) (sign_by_kind b bytes after (record { head = head; signs = signs; no_comment = none })) in
-    subst (λ (x : List ℕ). IsFirstAs k (text_as k x) bytes after) (sym same) (first n)
+    subst (λ (x : List ℕ). IsFirstAs k (unquoted_text k x) bytes after) (sym same) (first n)

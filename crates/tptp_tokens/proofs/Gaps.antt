@@ -4,7 +4,7 @@ use Rattle.std.proofs.lemmas.List.{append-nil, length-append}
 use Rattle.std.specs.Prelude.{Option, Some, None, IfSome}
 use denote.Ref.{Bor}
 use Rattle.tptp_tokens.specs.Bytes.{is_blank}
-use Rattle.tptp_tokens.specs.Gaps.{Piece, Blank, Line, LastLine, Block, IsOneLine, IsFirstEnd, IsPiece, Skips}
+use Rattle.tptp_tokens.specs.Gaps.{GapPiece, Blank, Line, LastLine, Block, IsOneLine, IsFirstEnd, IsPiece, Skips}
 use Rattle.tptp_tokens.specs.Founds.{EndsLine}
 
 one_more : (bytes front : List ℕ) (b : ℕ) (after : List ℕ) → bytes ≡ front ++ b ∷ after → bytes ≡ (front ++ b ∷ []) ++ after
@@ -32,7 +32,7 @@ first_more bytes front b after e none least text end f = go front text (sym e �
     go (a ∷ p) (c ∷ q) h le = let k : p ++ b ∷ after ≡ q ++ 42 ∷ 47 ∷ end = cc in let r = go p q k (omega arith) in omega arith
 
 -- the end that is found is the first
-found : (bytes front end : List ℕ) → bytes ≡ front ++ 42 ∷ 47 ∷ end → ((text after : List ℕ) → bytes ≡ text ++ 42 ∷ 47 ∷ after → length front ≤ length text) → (text : List ℕ) × IsFirstEnd bytes text end
+found : (bytes front end : List ℕ) → bytes ≡ front ++ 42 ∷ 47 ∷ end → ((text after : List ℕ) → bytes ≡ text ++ 42 ∷ 47 ∷ after → length front ≤ length text) → (text : List ℕ) × IsFirstEnd text bytes end
 found bytes front end e least = (front, record { here = e; first = least })
 
 -- none is found up to the end
@@ -43,11 +43,11 @@ none_found bytes front e least text rest f =
 -- ---- the pieces that a loop has skipped
 
 pub record GapSoFar (bytes rest : List ℕ) : Type 0 where
-  pub joins : (pieces : List Piece) (end : List ℕ) → Skips pieces rest end → (all : List Piece) × Skips all bytes end
+  pub joins : (pieces : List GapPiece) (end : List ℕ) → Skips pieces rest end → (all : List GapPiece) × Skips all bytes end
   pub within : length rest ≤ length bytes
 
 -- a piece more in front
-pub gap_goes_on : (bytes rest after : List ℕ) → GapSoFar bytes rest → (piece : Piece) × IsPiece piece rest after → length after ≤ length rest → GapSoFar bytes after
+pub gap_goes_on : (bytes rest after : List ℕ) → GapSoFar bytes rest → (piece : GapPiece) × IsPiece piece rest after → length after ≤ length rest → GapSoFar bytes after
 gap_goes_on bytes rest after g p le = record {
   joins = λ pieces end s. g.joins (p.0 ∷ pieces) end (after, p.1, s);
   within = omega (arith, g.within);
@@ -99,15 +99,15 @@ block_goes_on bytes rest b after l e none =
       least = first_more bytes l.front b after whole (λ end h. none end (e ∙ h)) l.least;
     }
 
-pub block_is_ended : (bytes rest end : List ℕ) → BlockSoFar bytes rest → rest ≡ 42 ∷ 47 ∷ end → (text : List ℕ) × IsFirstEnd bytes text end
+pub block_is_ended : (bytes rest end : List ℕ) → BlockSoFar bytes rest → rest ≡ 42 ∷ 47 ∷ end → (text : List ℕ) × IsFirstEnd text bytes end
 block_is_ended bytes rest end l e = found bytes l.front end (l.text ∙ ap (λ (x : List ℕ). l.front ++ x) e) l.least
 
 pub block_has_no_end : (bytes rest : List ℕ) → BlockSoFar bytes rest → rest ≡ [] → (text after : List ℕ) → bytes ≡ text ++ 42 ∷ 47 ∷ after → ⊥
 block_has_no_end bytes rest l e = none_found bytes l.front (l.text ∙ ap (λ (x : List ℕ). l.front ++ x) e) l.least
 
-pub blank_piece : (bytes : List ℕ) (b : ℕ) (after : List ℕ) → bytes ≡ b ∷ after → is_blank b ≡ true → (piece : Piece) × IsPiece piece bytes after
+pub blank_piece : (bytes : List ℕ) (b : ℕ) (after : List ℕ) → bytes ≡ b ∷ after → is_blank b ≡ true → (piece : GapPiece) × IsPiece piece bytes after
 blank_piece bytes b after e h = (Blank b, (e, h))
 
-pub block_piece : (bytes inside : List ℕ) (r : Option (Bor (List ℕ))) → bytes ≡ 47 ∷ 42 ∷ inside → IfSome r (λ rest. (text : List ℕ) × IsFirstEnd inside text rest.now) → IfSome r (λ rest. (piece : Piece) × IsPiece piece bytes rest.now)
+pub block_piece : (bytes inside : List ℕ) (r : Option (Bor (List ℕ))) → bytes ≡ 47 ∷ 42 ∷ inside → IfSome r (λ rest. (text : List ℕ) × IsFirstEnd text inside rest.now) → IfSome r (λ rest. (piece : GapPiece) × IsPiece piece bytes rest.now)
 block_piece bytes inside None e h = tt
 block_piece bytes inside (Some r) e h = (Block h.0, (inside, e, h.1))

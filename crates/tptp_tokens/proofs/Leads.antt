@@ -5,7 +5,7 @@ use Rattle.std.proofs.lemmas.List.{append-nil}
 use Rattle.std.specs.Prelude.{◌⊎◌, ◌==◌, ◌||◌, if◌then◌else◌}
 use Rattle.std.specs.List.{list_all}
 use Rattle.me_terms.specs.Labels.{is_digit, is_printable}
-use Rattle.tptp_tokens.specs.Bytes.{is_lower, is_upper, is_word_byte, is_other_sign}
+use Rattle.tptp_tokens.specs.Bytes.{is_lower_letter, is_upper_letter, is_word_byte, is_other_sign}
 use Rattle.tptp_tokens.specs.Leads.{lead_of, sign_kind}
 use Rattle.tptp_tokens.specs.Numbers.{IsNumber, IsDigits}
 use Rattle.tptp_tokens.specs.Quoted.{escaped}
@@ -14,7 +14,7 @@ use Rattle.tptp_tokens.specs.declared.lead.Lead.{Lead}
 use Rattle.tptp_tokens.specs.declared.lead.Lead.TheVariants.{LowerLetter, UpperLetter, Dollar, SingleQuote, DoubleQuote, Numeric, Exclamation, Other}
 use Rattle.tptp_tokens.specs.declared.token.TokenKind.{TokenKind}
 use Rattle.tptp_tokens.specs.declared.token.TokenKind.TheVariants as kinds
-use Rattle.tptp_tokens.proofs.Runs.{heads, all_first}
+use Rattle.tptp_tokens.proofs.Runs.{heads, all_first, word_parts}
 
 -- what may come after a first byte in a token
 abbrev pub Allowed : Lead → ℕ → List ℕ → Type 0
@@ -47,16 +47,16 @@ other_signs P h58 h59 h33 h63 h38 h60 h62 h42 h43 h45 h47 h92 h94 h64 h123 h125 
 
 -- ---- the lead of a byte
 
-pub lower_lead : (b : ℕ) → is_lower b ≡ true → lead_of b ≡ LowerLetter
+pub lower_lead : (b : ℕ) → is_lower_letter b ≡ true → lead_of b ≡ LowerLetter
 lower_lead b h = rw h refl
 
-pub upper_lead : (b : ℕ) → is_upper b ≡ true → lead_of b ≡ UpperLetter
-upper_lead b h = let n : is_lower b ≡ false = grind (arith, nat_tests) in rw (n, h) refl
+pub upper_lead : (b : ℕ) → is_upper_letter b ≡ true → lead_of b ≡ UpperLetter
+upper_lead b h = let n : is_lower_letter b ≡ false = grind (arith, nat_tests) in rw (n, h) refl
 
 pub digit_lead : (b : ℕ) → is_digit b ≡ true → lead_of b ≡ Numeric
 digit_lead b h =
-    let l : is_lower b ≡ false = grind (arith, nat_tests) in
-    let u : is_upper b ≡ false = grind (arith, nat_tests) in
+    let l : is_lower_letter b ≡ false = grind (arith, nat_tests) in
+    let u : is_upper_letter b ≡ false = grind (arith, nat_tests) in
     let d : (b == 36) ≡ false = grind (arith, nat_tests) in
     let s : (b == 39) ≡ false = grind (arith, nat_tests) in
     let q : (b == 34) ≡ false = grind (arith, nat_tests) in
@@ -102,10 +102,10 @@ pub digits_number : (text : List ℕ) → IsDigits text → IsNumber text
 digits_number text h = ([], text, [], sym (append-nil text), inl refl, h, inr ([], [], refl, inl refl, inl refl))
 
 pub led : (kind : TokenKind) (text : List ℕ) → IsText kind text → Led (written_as kind text)
-led kinds.LowerWord [] h = absurd h
-led kinds.LowerWord (b ∷ w) h = record { byte = b; tail = w; is = refl; allowed = subst (λ (l : Lead). Allowed l b w) (sym (lower_lead b h.0)) h.1 }
-led kinds.Variable [] h = absurd h
-led kinds.Variable (b ∷ w) h = record { byte = b; tail = w; is = refl; allowed = subst (λ (l : Lead). Allowed l b w) (sym (upper_lead b h.0)) h.1 }
+led kinds.LowerWord [] h = absurd cc
+led kinds.LowerWord (b ∷ w) h = let f = word_parts is_lower_letter b w h in record { byte = b; tail = w; is = refl; allowed = subst (λ (l : Lead). Allowed l b w) (sym (lower_lead b f.0)) f.1 }
+led kinds.Variable [] h = absurd cc
+led kinds.Variable (b ∷ w) h = let f = word_parts is_upper_letter b w h in record { byte = b; tail = w; is = refl; allowed = subst (λ (l : Lead). Allowed l b w) (sym (upper_lead b f.0)) f.1 }
 led kinds.DollarWord text h = dollar_led text h.0 h.1 h.2
 led kinds.SingleQuoted text h = record { byte = 39; tail = escaped 39 text ++ 39 ∷ []; is = refl; allowed = (text, h.0, h.1, refl) }
 led kinds.Distinct text h = record { byte = 34; tail = escaped 34 text ++ 34 ∷ []; is = refl; allowed = (text, h, refl) }
@@ -164,8 +164,8 @@ no_comment bytes b after head n c =
 -- ---- what the lead of a byte tells
 
 abbrev pub Means : Lead → ℕ → Type 0
-Means LowerLetter b = is_lower b ≡ true
-Means UpperLetter b = is_upper b ≡ true
+Means LowerLetter b = is_lower_letter b ≡ true
+Means UpperLetter b = is_upper_letter b ≡ true
 Means Dollar b = b ≡ 36
 Means SingleQuote b = b ≡ 39
 Means DoubleQuote b = b ≡ 34
@@ -181,8 +181,8 @@ is_number b n h = grind (arith, nat_tests)
 
 pub means : (b : ℕ) → Means (lead_of b) b
 means b =
-    by_test (λ l. Means l b) (is_lower b) _ _ (λ h. h)
-    (by_test (λ l. Means l b) (is_upper b) _ _ (λ h. h)
+    by_test (λ l. Means l b) (is_lower_letter b) _ _ (λ h. h)
+    (by_test (λ l. Means l b) (is_upper_letter b) _ _ (λ h. h)
     (by_test (λ l. Means l b) (b == 36) _ _ (λ h. is_number b 36 h)
     (by_test (λ l. Means l b) (b == 39) _ _ (λ h. is_number b 39 h)
     (by_test (λ l. Means l b) (b == 34) _ _ (λ h. is_number b 34 h)

@@ -4,13 +4,13 @@ use Rattle.std.proofs.lemmas.List.{append_cancel_left, length-append}
 use Rattle.std.specs.Prelude.{◌==◌, Option, Some, None, IfSome, IfNone}
 use denote.Ref.{Bor}
 use Rattle.me_terms.specs.Labels.{is_digit}
-use Rattle.tptp_tokens.specs.Fronts.{Stops, IsRun, IsFront, IsAfter, HasNoFront}
+use Rattle.tptp_tokens.specs.Fronts.{Stops, IsRun, IsLongestFront, IsAfter, HasNoFront}
 use Rattle.tptp_tokens.specs.Numbers.{IsDigits, IsSign, IsDigitsBehind, IsFraction, IsPower, IsExponent, IsTail, IsNumber}
 use Rattle.tptp_tokens.proofs.Runs.{heads, differ, all_first, all_append, run_longest, run_then}
 
 -- one or more digits, and nothing more of them
 abbrev pub Digits : List ℕ → List ℕ → Type 0
-Digits bytes rest = (run : List ℕ) × IsRun is_digit bytes run rest × IsDigits run
+Digits bytes rest = (run : List ℕ) × IsRun is_digit run bytes rest × IsDigits run
 
 -- the bytes begin with a digit
 pub record Headed (bytes : List ℕ) : Type 0 where
@@ -23,7 +23,7 @@ digits_headed : (ds r : List ℕ) → IsDigits ds → Headed (ds ++ r)
 digits_headed [] r h = absurd (h.0 refl)
 digits_headed (d ∷ ds) r h = record { byte = d; tail = ds ++ r; text = refl; digit = (all_first is_digit d ds h.1).0 }
 
-pub digits_here : (bytes run rest : List ℕ) (byte : ℕ) (after : List ℕ) → bytes ≡ byte ∷ after → is_digit byte ≡ true → IsRun is_digit bytes run rest → IsDigits run
+pub digits_here : (bytes run rest : List ℕ) (byte : ℕ) (after : List ℕ) → bytes ≡ byte ∷ after → is_digit byte ≡ true → IsRun is_digit run bytes rest → IsDigits run
 digits_here bytes [] rest byte after e d h = absurd (go rest (sym h.parts ∙ e) h.stops)
   where
     go : (x : List ℕ) → x ≡ byte ∷ after → Stops is_digit x → ⊥
@@ -118,7 +118,7 @@ sign_is s t rest d y (inr (inr e)) (inr (inl f)) le eq h =
     let g : ◌≡◌ {A = ℕ} 45 43 = (heads 45 43 rest (d ∷ y) k).0 in absurd (omega arith)
 
 -- the sign before digits is the one that was found, and what comes after it too
-sign_same : (bytes s rest t ds r : List ℕ) → IsFront IsSign bytes s rest → IsSign t → IsDigits ds → bytes ≡ t ++ (ds ++ r) → (t ≡ s) × (rest ≡ ds ++ r)
+sign_same : (bytes s rest t ds r : List ℕ) → IsLongestFront IsSign s bytes rest → IsSign t → IsDigits ds → bytes ≡ t ++ (ds ++ r) → (t ≡ s) × (rest ≡ ds ++ r)
 sign_same bytes s rest t ds r f ht hd e = go (digits_headed ds r hd)
   where
     go : Headed (ds ++ r) → (t ≡ s) × (rest ≡ ds ++ r)
@@ -212,7 +212,7 @@ fraction_none bytes none = ([], record { parts = refl; has = inl refl; longest =
     go other r (inr k) f = absurd (none other r k f)
 
 -- after a fraction with digits no digit comes
-fraction_stops : (bytes ds rest : List ℕ) → IsFront IsFraction bytes (46 ∷ ds) rest → IsDigits ds → Stops is_digit rest
+fraction_stops : (bytes ds rest : List ℕ) → IsLongestFront IsFraction (46 ∷ ds) bytes rest → IsDigits ds → Stops is_digit rest
 fraction_stops bytes ds [] f h = tt
 fraction_stops bytes ds (b ∷ rest) f h = go (is_digit b) refl
   where
@@ -249,7 +249,7 @@ led_elsewhere : (p : ℕ → Bool) (b : ℕ) (x t r : List ℕ) → p b ≡ true
 led_elsewhere p b x [] r h s e = omega arith
 led_elsewhere p b x (c ∷ t) r h s e = absurd (differ p b c (heads b c x (t ++ r) e).0 h s)
 
-real_longest : (bytes f rest x end g y r : List ℕ) → IsFront IsFraction bytes f rest → IsFront IsExponent rest x end → IsFraction g → IsExponent y → bytes ≡ g ++ (y ++ r) → length g + length y ≤ length f + length x
+real_longest : (bytes f rest x end g y r : List ℕ) → IsLongestFront IsFraction f bytes rest → IsLongestFront IsExponent x rest end → IsFraction g → IsExponent y → bytes ≡ g ++ (y ++ r) → length g + length y ≤ length f + length x
 real_longest bytes f rest x end g y r hf hx hg hy e = go hf.has hg
   where
     go : IsFraction f → IsFraction g → length g + length y ≤ length f + length x
@@ -264,7 +264,7 @@ real_longest bytes f rest x end g y r hf hx hg hy e = go hf.has hg
         omega (arith, ap length b)
     go (inr a) (inr b) =
         let same : 46 ∷ (a.0 ++ rest) ≡ 46 ∷ (b.0 ++ (y ++ r)) = ap (λ (z : List ℕ). z ++ rest) (sym a.1) ∙ sym hf.parts ∙ e ∙ ap (λ (z : List ℕ). z ++ (y ++ r)) b.1 in
-        let stops = fraction_stops bytes a.0 rest (subst (λ (z : List ℕ). IsFront IsFraction bytes z rest) a.1 hf) a.2 in
+        let stops = fraction_stops bytes a.0 rest (subst (λ (z : List ℕ). IsLongestFront IsFraction z bytes rest) a.1 hf) a.2 in
         let le = run_then is_digit IsExponent (λ t h. exponent_stops is_digit t refl refl h) a.0 rest x end b.0 y r a.2.1 stops hx b.2.1 hy (heads 46 46 (a.0 ++ rest) (b.0 ++ (y ++ r)) same).1 in
         omega (arith, ap length a.1, ap length b.1)
 

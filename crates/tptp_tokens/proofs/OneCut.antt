@@ -4,18 +4,18 @@ use Rattle.std.proofs.lemmas.List.{length-append}
 use Rattle.std.specs.Prelude.{◌⊎◌, if◌then◌else◌}
 use Rattle.std.specs.List.{list_all}
 use Rattle.me_terms.specs.Labels.{is_digit}
-use Rattle.tptp_tokens.specs.Bytes.{is_blank}
-use Rattle.tptp_tokens.specs.Gaps.{Piece, Blank, Line, LastLine, Block, IsOneLine, IsFirstEnd, IsPiece, Skips, IsGap}
+use Rattle.tptp_tokens.specs.Bytes.{is_blank, is_lower_letter, is_upper_letter}
+use Rattle.tptp_tokens.specs.Gaps.{GapPiece, Blank, Line, LastLine, Block, IsOneLine, IsFirstEnd, IsPiece, Skips, IsGap}
 use Rattle.tptp_tokens.specs.Leads.{lead_of, sign_kind}
 use Rattle.tptp_tokens.specs.Numbers.{IsNumber, IsDigits}
 use Rattle.tptp_tokens.specs.Quoted.{escaped}
 use Rattle.tptp_tokens.specs.Remainders.{Remainder}
-use Rattle.tptp_tokens.specs.Tokens.{TokenValue, PlacedToken, IsText, IsToken, written_as, written, IsLongest, IsFirstAs, IsFirst, IsBad, OpensComment, BeginsNone, IsNext, IsCutFrom}
+use Rattle.tptp_tokens.specs.Tokens.{TokenValue, PlacedToken, IsText, IsToken, written_as, written, IsLongest, IsFirstAs, IsFirst, IsBad, OpensComment, BeginsNone, IsNextToken, IsCutFrom}
 use Rattle.tptp_tokens.specs.declared.lead.Lead.{Lead}
 use Rattle.tptp_tokens.specs.declared.lead.Lead.TheVariants.{LowerLetter, UpperLetter, Dollar, SingleQuote, DoubleQuote, Numeric, Exclamation, Other}
 use Rattle.tptp_tokens.specs.declared.token.TokenKind.{TokenKind}
 use Rattle.tptp_tokens.specs.declared.token.TokenKind.TheVariants as kinds
-use Rattle.tptp_tokens.proofs.Runs.{heads, differ}
+use Rattle.tptp_tokens.proofs.Runs.{heads, differ, word_parts}
 use Rattle.tptp_tokens.proofs.Quotes.{one_text}
 use Rattle.tptp_tokens.proofs.Leads.{led, other_signs, lower_lead, upper_lead, digit_lead, NumberLed, number_led}
 
@@ -42,7 +42,7 @@ no_line [] (c ∷ u) r k e = k.0 (sym (heads 10 c r u e).0)
 no_line (b ∷ t) [] r k e = cc
 no_line (b ∷ t) (c ∷ u) r k e = no_line t u r k.1 (heads b c (t ++ 10 ∷ r) u e).1
 
-one_end : (bytes t u r s : List ℕ) → IsFirstEnd bytes t r → IsFirstEnd bytes u s → r ≡ s
+one_end : (bytes t u r s : List ℕ) → IsFirstEnd t bytes r → IsFirstEnd u bytes s → r ≡ s
 one_end bytes t u r s h k =
     let le = h.first u s k.here in let ge = k.first t r h.here in
     let same = (same_length t u (42 ∷ 47 ∷ r) (42 ∷ 47 ∷ s) (sym h.here ∙ k.here) (omega arith)).1 in
@@ -54,7 +54,7 @@ blank_not b n x y bytes f e h g = differ is_blank b n (heads b n x y (sym e ∙ 
 not_both : (x y bytes : List ℕ) → bytes ≡ 37 ∷ x → bytes ≡ 47 ∷ y → ⊥
 not_both x y bytes e g = let k : ◌≡◌ {A = ℕ} 37 47 = (heads 37 47 x y (sym e ∙ g)).0 in absurd (omega arith)
 
-one_piece : (p q : Piece) (bytes r s : List ℕ) → IsPiece p bytes r → IsPiece q bytes s → r ≡ s
+one_piece : (p q : GapPiece) (bytes r s : List ℕ) → IsPiece p bytes r → IsPiece q bytes s → r ≡ s
 one_piece (Blank b) (Blank c) bytes r s h k = (heads b c r s (sym h.0 ∙ k.0)).1
 one_piece (Blank b) (Line u) bytes r s h k = absurd (blank_not b 37 r (u ++ 10 ∷ s) bytes refl h.0 h.1 k.0)
 one_piece (Blank b) (LastLine u) bytes r s h k = absurd (blank_not b 37 r u bytes refl h.0 h.1 k.0)
@@ -72,9 +72,9 @@ one_piece (Block t) (Line u) bytes r s h k = absurd (not_both (u ++ 10 ∷ s) (4
 one_piece (Block t) (LastLine u) bytes r s h k = absurd (not_both u (42 ∷ h.0) bytes k.0 h.1)
 one_piece (Block t) (Block u) bytes r s h k =
     let same = (heads 42 42 h.0 k.0 (heads 47 47 (42 ∷ h.0) (42 ∷ k.0) (sym h.1 ∙ k.1)).1).1 in
-    one_end k.0 t u r s (subst (λ (x : List ℕ). IsFirstEnd x t r) same h.2) k.2
+    one_end k.0 t u r s (subst (λ (x : List ℕ). IsFirstEnd t x r) same h.2) k.2
 
-one_skip : (ps qs : List Piece) (bytes r s : List ℕ) → Skips ps bytes r → Skips qs bytes s → r ≡ s
+one_skip : (ps qs : List GapPiece) (bytes r s : List ℕ) → Skips ps bytes r → Skips qs bytes s → r ≡ s
 one_skip [] [] bytes r s h k = h.0 ∙ sym k.0
 one_skip [] (q ∷ qs) bytes r s h k = absurd (h.1 q k.0 k.1)
 one_skip (p ∷ ps) [] bytes r s h k = absurd (k.1 p h.0 h.1)
@@ -151,10 +151,10 @@ number_kind text h n = let x = number_led text h in go x (list_all is_digit (x.b
         ap kind_at x.is ∙ ap (λ (l : Lead). kind_in l x.byte x.tail) x.lead ∙ ap (λ (v : Bool). if v then kinds.Digits else shorter_kind x.tail) e ∙ tail x x.tail refl
 
 kind_is : (kind : TokenKind) (text : List ℕ) → IsText kind text → kind_at (written_as kind text) ≡ kind
-kind_is kinds.LowerWord [] h = absurd h
-kind_is kinds.LowerWord (b ∷ w) h = ap (λ (l : Lead). kind_in l b w) (lower_lead b h.0)
-kind_is kinds.Variable [] h = absurd h
-kind_is kinds.Variable (b ∷ w) h = ap (λ (l : Lead). kind_in l b w) (upper_lead b h.0)
+kind_is kinds.LowerWord [] h = absurd cc
+kind_is kinds.LowerWord (b ∷ w) h = ap (λ (l : Lead). kind_in l b w) (lower_lead b (word_parts is_lower_letter b w h).0)
+kind_is kinds.Variable [] h = absurd cc
+kind_is kinds.Variable (b ∷ w) h = ap (λ (l : Lead). kind_in l b w) (upper_lead b (word_parts is_upper_letter b w h).0)
 kind_is kinds.DollarWord text h = dollar_kind text h.0 h.1
 kind_is kinds.SingleQuoted text h = refl
 kind_is kinds.Distinct text h = refl
@@ -253,7 +253,7 @@ placed at t = record { at = at; token = t }
 abbrev remainder : ℕ → List ℕ → Remainder
 remainder at bytes = record { at = at; bytes = bytes }
 
-pub one_next : (now : Remainder) (p q : PlacedToken) (l m : Remainder) → IsNext now p l → IsNext now q m → SameNext p q l m
+pub one_next : (now : Remainder) (p q : PlacedToken) (l m : Remainder) → IsNextToken now p l → IsNextToken now q m → SameNext p q l m
 one_next now p q l m h k =
     let middle : h.middle ≡ k.middle = one_gap now.bytes h.middle k.middle h.gap k.gap in
     let first = one_first p.token q.token k.middle l.bytes m.bytes (subst (λ (x : List ℕ). IsFirst p.token x l.bytes) middle h.first) k.first in
@@ -264,7 +264,7 @@ one_next now p q l m h k =
       left = ap (λ (x : ℕ). remainder x l.bytes) end ∙ ap (λ (x : List ℕ). remainder m.at x) first.1;
     }
 
-none_left : (now : Remainder) (p : PlacedToken) (l : Remainder) → IsGap now.bytes [] → IsNext now p l → ⊥
+none_left : (now : Remainder) (p : PlacedToken) (l : Remainder) → IsGap now.bytes [] → IsNextToken now p l → ⊥
 none_left now p l g h = let e = one_gap now.bytes [] h.middle g h.gap in let lt = first_takes p.token h.middle l.bytes h.first in absurd (omega (arith, ap length e))
 
 pub one_cut_from : (now : Remainder) (ts us : List PlacedToken) → IsCutFrom now ts → IsCutFrom now us → ts ≡ us

@@ -7,7 +7,7 @@ use Rattle.std.specs.Prelude.{◌⊎◌, ◌==◌}
 use Rattle.std.specs.List.{list_all}
 use Rattle.me_terms.specs.Labels.{is_printable}
 use Rattle.tptp_tokens.specs.Quoted.{is_escaped, escaped_if, escaped_byte, escaped, unescaped_from, unescaped}
-use Rattle.tptp_tokens.specs.Founds.{IsClosed, IsPrintables, BeginsPrintable}
+use Rattle.tptp_tokens.specs.Founds.{IsClosedQuote, IsPrintables, BeginsPrintable}
 use Rattle.tptp_tokens.proofs.Runs.{all_first, all_append}
 
 head : (a b : ℕ) (x y : List ℕ) → a ∷ x ≡ b ∷ y → a ≡ b
@@ -73,7 +73,7 @@ rest_of q (b ∷ w) (d ∷ u) rest r n h e =
     (one_byte (is_escaped q b) (is_escaped q d) q b d (escaped q w ++ rest) (escaped q u ++ q ∷ r) refl refl (sym (byte_off q b w rest) ∙ e ∙ byte_off q d u (q ∷ r))).1
 
 -- where nothing more can be read, and no quote comes, no text is closed
-pub never_closes : (q : ℕ) (bytes rest : List ℕ) → q ≢ 92 → IsPrintables q bytes rest → ((after : List ℕ) → BeginsPrintable q rest after → ⊥) → ((after : List ℕ) → rest ≡ q ∷ after → ⊥) → (inside r : List ℕ) → IsClosed q bytes inside r → ⊥
+pub never_closes : (q : ℕ) (bytes rest : List ℕ) → q ≢ 92 → IsPrintables q bytes rest → ((after : List ℕ) → BeginsPrintable q rest after → ⊥) → ((after : List ℕ) → rest ≡ q ∷ after → ⊥) → (inside r : List ℕ) → IsClosedQuote q inside bytes r → ⊥
 never_closes q bytes rest n s none end inside r c =
     go (rest_of q s.text c.text rest r n c.each (sym s.parts ∙ c.parts ∙ ap (λ (x : List ℕ). x ++ q ∷ r) c.is))
   where
@@ -87,7 +87,7 @@ front_is bytes front rest e =
     let n : length bytes - length rest ≡ length front = omega (arith, ap length e, length-append front rest) in
     ap (λ (k : ℕ). take k bytes) n ∙ ap (λ (x : List ℕ). take (length front) x) e ∙ take-append_seam front rest
 
-pub is_closed : (q : ℕ) (bytes rest after inside : List ℕ) → IsPrintables q bytes rest → rest ≡ q ∷ after → inside ≡ take (length bytes - length rest) bytes → IsClosed q bytes inside after
+pub is_closed : (q : ℕ) (bytes rest after inside : List ℕ) → IsPrintables q bytes rest → rest ≡ q ∷ after → inside ≡ take (length bytes - length rest) bytes → IsClosedQuote q inside bytes after
 is_closed q bytes rest after inside s e f =
     let same : inside ≡ escaped q s.text = f ∙ front_is bytes (escaped q s.text) rest s.parts in
     record { text = s.text; each = s.each; is = same; parts = s.parts ∙ ap (λ (x : List ℕ). escaped q s.text ++ x) e ∙ ap (λ (x : List ℕ). x ++ q ∷ after) (sym same) }
@@ -102,7 +102,7 @@ pub unescaped-escaped : (q : ℕ) (w : List ℕ) → unescaped (escaped q w) ≡
 unescaped-escaped q [] = refl
 unescaped-escaped q (b ∷ w) = read_if (is_escaped q b) q b (escaped q w) refl ∙ ap (λ (x : List ℕ). b ∷ x) (unescaped-escaped q w)
 
-pub text_is : (q : ℕ) (bytes inside rest : List ℕ) (c : IsClosed q bytes inside rest) → unescaped inside ≡ c.text
+pub text_is : (q : ℕ) (bytes inside rest : List ℕ) (c : IsClosedQuote q inside bytes rest) → unescaped inside ≡ c.text
 text_is q bytes inside rest c = ap (λ (x : List ℕ). unescaped x) c.is ∙ unescaped-escaped q c.text
 
 -- ---- a loop that reads what is written

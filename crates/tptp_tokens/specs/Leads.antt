@@ -1,7 +1,7 @@
 -- The tokens by their first byte.
 use Rattle.std.specs.Prelude.{ℕ, ◌||◌, ◌==◌, if◌then◌else◌}
 use Rattle.me_terms.specs.Labels.{is_digit}
-use Rattle.tptp_tokens.specs.Bytes.{is_lower, is_upper, is_other_sign}
+use Rattle.tptp_tokens.specs.Bytes.{is_lower_letter, is_upper_letter, is_other_sign}
 use Rattle.tptp_tokens.specs.declared.token.TokenKind.{TokenKind}
 use Rattle.tptp_tokens.specs.declared.token.TokenKind.TheVariants.{OpenRound, CloseRound, OpenSquare, CloseSquare, Comma, Dot, Bar, Tilde, Equal, OtherSign, Bad}
 use Rattle.tptp_tokens.specs.declared.lead.Lead.{Lead}
@@ -10,8 +10,8 @@ use Rattle.tptp_tokens.specs.declared.lead.Lead.TheVariants.{LowerLetter, UpperL
 -- which tokens a byte may begin
 abbrev pub lead_of : ℕ → Lead
 lead_of byte =
-    if is_lower byte then LowerLetter
-    else if is_upper byte then UpperLetter
+    if is_lower_letter byte then LowerLetter
+    else if is_upper_letter byte then UpperLetter
     else if byte == 36 then Dollar
     else if byte == 39 then SingleQuote
     else if byte == 34 then DoubleQuote

@@ -1,6 +1,8 @@
 -- How a text is written in quotes: with a backslash before each quote of that kind and each backslash.
 use Rattle.std.specs.Prelude.{ℕ, Bool, true, false, List, [], ◌∷◌, ◌++◌, ◌||◌, ◌==◌, if◌then◌else◌}
+use Rattle.std.specs.List.{flat_map}
 
+-- the byte is written with a backslash
 abbrev pub is_escaped : ℕ → ℕ → Bool
 is_escaped quote byte = byte == quote || byte == 92
 
@@ -14,8 +16,11 @@ escaped_byte quote byte = escaped_if (is_escaped quote byte) byte
 
 -- the text as it stands between two quotes
 abbrev pub escaped : ℕ → List ℕ → List ℕ
-escaped quote [] = []
-escaped quote (byte ∷ text) = escaped_byte quote byte ++ escaped quote text
+escaped quote text = flat_map (escaped_byte quote) text
+
+-- the text with its quotes
+abbrev pub quoted : ℕ → List ℕ → List ℕ
+quoted quote text = quote ∷ (escaped quote text ++ quote ∷ [])
 
 -- the text that is left to be read, where the byte before was a backslash that escapes the next byte, or was none
 abbrev pub unescaped_from : Bool → List ℕ → List ℕ

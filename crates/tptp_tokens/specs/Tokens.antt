@@ -1,11 +1,11 @@
 -- How bytes are cut into tokens: from left to right, each as long as can be, with gaps between them.
-use Rattle.std.specs.Prelude.{◌≡◌, ◌≢◌, ◌⊎◌, ◌≤◌, ℕ, ◌+◌, Bool, true, List, [], ◌∷◌, ◌++◌, length, IsTrue}
+use Rattle.std.specs.Prelude.{◌≡◌, ◌≢◌, ◌⊎◌, ◌≤◌, ℕ, ◌+◌, true, List, [], ◌∷◌, ◌++◌, length, IsTrue}
 use Rattle.std.specs.List.{list_all}
 use Rattle.me_terms.specs.Labels.{is_printable}
-use Rattle.tptp_tokens.specs.Bytes.{is_lower, is_upper, is_word_byte, is_other_sign}
+use Rattle.tptp_tokens.specs.Bytes.{is_upper_letter, is_word_byte, is_word, is_lower_word, is_other_sign}
 use Rattle.tptp_tokens.specs.Gaps.{IsGap}
 use Rattle.tptp_tokens.specs.Numbers.{IsDigits, IsNumber}
-use Rattle.tptp_tokens.specs.Quoted.{escaped, unescaped}
+use Rattle.tptp_tokens.specs.Quoted.{quoted, unescaped}
 use Rattle.tptp_tokens.specs.Remainders.{Remainder}
 use Rattle.tptp_tokens.specs.declared.token.Token.{Token}
 use Rattle.tptp_tokens.specs.declared.token.TokenKind.{TokenKind}
@@ -23,19 +23,14 @@ pub record PlacedToken : Type 0 where
 
 -- ---- each token for itself
 
--- the text begins with a byte that has p, and all its bytes are word bytes
-abbrev pub IsWord : (ℕ → Bool) → List ℕ → Type 0
-IsWord p [] = ⊥
-IsWord p (byte ∷ text) = (p byte ≡ true) × IsTrue (list_all is_word_byte text)
-
 -- one or two dollars, and then word bytes
 abbrev pub IsDollarWord : List ℕ → Type 0
 IsDollarWord text = (word : List ℕ) × ((text ≡ 36 ∷ word) ⊎ (text ≡ 36 ∷ 36 ∷ word)) × IsTrue (list_all is_word_byte word)
 
 -- the texts of the tokens of a kind; those of a bad token depend on what comes after them, so none is given here
 abbrev pub IsText : TokenKind → List ℕ → Type 0
-IsText LowerWord text = IsWord is_lower text
-IsText Variable text = IsWord is_upper text
+IsText LowerWord text = IsTrue (is_lower_word text)
+IsText Variable text = IsTrue (is_word is_upper_letter text)
 IsText DollarWord text = IsDollarWord text
 IsText SingleQuoted text = (text ≢ []) × IsTrue (list_all is_printable text)
 IsText Distinct text = IsTrue (list_all is_printable text)
@@ -56,8 +51,8 @@ IsText Bad text = ⊥
 
 -- the bytes of a token of a kind
 abbrev pub written_as : TokenKind → List ℕ → List ℕ
-written_as SingleQuoted text = 39 ∷ (escaped 39 text ++ 39 ∷ [])
-written_as Distinct text = 34 ∷ (escaped 34 text ++ 34 ∷ [])
+written_as SingleQuoted text = quoted 39 text
+written_as Distinct text = quoted 34 text
 written_as kind text = text
 
 abbrev pub IsToken : TokenValue → Type 0
@@ -98,7 +93,7 @@ IsFirst token bytes rest = IsFirstAs token.kind token.text bytes rest
 -- ---- the cut of bytes into tokens
 
 -- After a gap this token comes next, and then what is left. A place and the number of bytes from it on always sum to the same.
-pub record IsNext (now : Remainder) (placed : PlacedToken) (left : Remainder) : Type 0 where
+pub record IsNextToken (now : Remainder) (placed : PlacedToken) (left : Remainder) : Type 0 where
   pub middle : List ℕ
   pub gap : IsGap now.bytes middle
   pub first : IsFirst placed.token middle left.bytes
@@ -108,7 +103,7 @@ pub record IsNext (now : Remainder) (placed : PlacedToken) (left : Remainder) : 
 -- what is left is cut into these tokens: a gap is left at the end, or one token comes next and the others after it
 abbrev pub IsCutFrom : Remainder → List PlacedToken → Type 0
 IsCutFrom now [] = IsGap now.bytes []
-IsCutFrom now (token ∷ tokens) = (left : Remainder) × IsNext now token left × IsCutFrom left tokens
+IsCutFrom now (token ∷ tokens) = (left : Remainder) × IsNextToken now token left × IsCutFrom left tokens
 
 -- the bytes of a file are cut into these tokens, each with its place from 0
 abbrev pub IsCut : List ℕ → List PlacedToken → Type 0
@@ -117,13 +112,13 @@ IsCut bytes tokens = IsCutFrom (record { at = 0; bytes = bytes }) tokens
 -- ---- the tokens of the code
 
 -- the text of a token, from its bytes without its quotes
-abbrev pub text_as : TokenKind → List ℕ → List ℕ
-text_as SingleQuoted inside = unescaped inside
-text_as Distinct inside = unescaped inside
-text_as kind inside = inside
+abbrev pub unquoted_text : TokenKind → List ℕ → List ℕ
+unquoted_text SingleQuoted inside = unescaped inside
+unquoted_text Distinct inside = unescaped inside
+unquoted_text kind inside = inside
 
 abbrev pub token_value : Token → TokenValue
-token_value token = record { kind = token.kind; text = text_as token.kind token.text.now }
+token_value token = record { kind = token.kind; text = unquoted_text token.kind token.text.now }
 
 abbrev pub placed_token : Token → PlacedToken
 placed_token token = record { at = token.at; token = token_value token }

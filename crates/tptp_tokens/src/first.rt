@@ -11,7 +11,7 @@ ghost use Rattle.tptp_tokens.specs.Leads.{lead_of};
 ghost use Rattle.tptp_tokens.specs.Numbers.{IsNumber};
 ghost use Rattle.tptp_tokens.specs.Tokens.{OpensComment};
 
-use crate::bytes::{after_byte, after_pair, after_word, digit, split};
+use crate::bytes::{after_byte, after_pair, after_word, is_digit, split};
 use crate::lead::{Lead, lead_of, sign_kind};
 use crate::number::after_number;
 use crate::quoted::closed;
@@ -116,7 +116,7 @@ fn distinct<'a>(bytes: &'a [u8], byte: u8, after: &'a [u8]) -> Found<'a>
 fn are_digits(text: &[u8]) -> bool
     ensures { result ≡ list_all is_digit text.now }
 {
-    text.iter().all(|byte| digit(*byte))
+    text.iter().all(|byte| is_digit(*byte))
 }
 
 /// The kind of a number of this text.

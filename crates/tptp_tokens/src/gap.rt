@@ -3,10 +3,10 @@
 //! A comment of a line ends with its line feed or with the bytes, and one that begins with `/*` at the
 //! first `*/`. A `/*` without `*/` is no part of a gap.
 ghost use Rattle.std.specs.Prelude.{◌≡◌, ◌<◌, ◌≤◌, ◌++◌, ◌∷◌, ℕ, List, length, IfSome, IfNone};
-ghost use Rattle.tptp_tokens.specs.Gaps.{Piece, IsPiece, IsFirstEnd, IsGap};
+ghost use Rattle.tptp_tokens.specs.Gaps.{GapPiece, IsPiece, IsFirstEnd, IsGap};
 ghost use Rattle.tptp_tokens.specs.Founds.{EndsLine};
 
-use crate::bytes::{after_byte, after_pair, blank, split};
+use crate::bytes::{after_byte, after_pair, is_blank, split};
 
 /// What comes after the line.
 fn after_line(bytes: &[u8]) -> &[u8]
@@ -25,7 +25,7 @@ fn after_line(bytes: &[u8]) -> &[u8]
 
 /// What comes after the first `*/`.
 fn after_block(bytes: &[u8]) -> Option<&[u8]>
-    ensures some { IfSome result (λ rest. (text : List ℕ) × IsFirstEnd bytes.now text rest.now) }
+    ensures some { IfSome result (λ rest. (text : List ℕ) × IsFirstEnd text bytes.now rest.now) }
     ensures shorter { IfSome result (λ rest. length rest.now ≤ length bytes.now) }
     ensures none { IfNone result ((text rest : List ℕ) → bytes.now ≡ text ++ 42 ∷ 47 ∷ rest → ⊥) }
 {
@@ -41,9 +41,9 @@ fn after_block(bytes: &[u8]) -> Option<&[u8]>
 
 /// What comes after the blank or the comment at the front, if one is there.
 fn after_piece(bytes: &[u8]) -> Option<&[u8]>
-    ensures some { IfSome result (λ rest. (piece : Piece) × IsPiece piece bytes.now rest.now) }
+    ensures some { IfSome result (λ rest. (piece : GapPiece) × IsPiece piece bytes.now rest.now) }
     ensures shorter { IfSome result (λ rest. length rest.now < length bytes.now) }
-    ensures none { IfNone result ((piece : Piece) (rest : List ℕ) → IsPiece piece bytes.now rest → ⊥) }
+    ensures none { IfNone result ((piece : GapPiece) (rest : List ℕ) → IsPiece piece bytes.now rest → ⊥) }
 {
     if let Some(after) = after_byte(bytes, b'%') {
         return Some(after_line(after));
@@ -52,7 +52,7 @@ fn after_piece(bytes: &[u8]) -> Option<&[u8]>
         return after_block(after);
     }
     match split(bytes) {
-        Some((byte, after)) => if blank(byte) { Some(after) } else { None },
+        Some((byte, after)) => if is_blank(byte) { Some(after) } else { None },
         None => None,
     }
 }

@@ -5,7 +5,7 @@ ghost use Rattle.std.specs.Prelude.{◌≡◌, ℕ, List};
 ghost use Rattle.me_terms.specs.Labels.{IsReadableAs};
 ghost use Rattle.me_terms.specs.declared.symbol.Form.TheVariants.{Word};
 ghost use Rattle.tptp_tokens.specs.Remainders.{Remainder};
-ghost use Rattle.tptp_tokens.specs.Tokens.{PlacedToken, IsText, IsNext, IsCut};
+ghost use Rattle.tptp_tokens.specs.Tokens.{PlacedToken, IsText, IsNextToken, IsCut};
 ghost use Rattle.tptp_tokens.specs.declared.token.TokenKind.TheVariants.{LowerWord};
 
 /// Bytes are cut into tokens in one way.
@@ -15,7 +15,7 @@ pub fn one_cut()
 
 /// What is left has one next token, and after it one thing is left.
 pub fn one_next()
-    ensures { (now : Remainder) (token other : PlacedToken) (left rest : Remainder) → IsNext now token left → IsNext now other rest → (token ≡ other) × (left ≡ rest) }
+    ensures { (now : Remainder) (token other : PlacedToken) (left rest : Remainder) → IsNextToken now token left → IsNextToken now other rest → (token ≡ other) × (left ≡ rest) }
 {}
 
 /// The text of a lower word is one that a label of a word can have.

@@ -15,11 +15,9 @@ mod text;
 mod token;
 mod tokenizer;
 
+pub use bytes::{is_lower_letter, is_lower_word, is_word_byte};
 pub use laws::{lower_words_are_words, one_cut, one_next};
-pub use quoted::unescaped;
+pub use quoted::{is_escaped, unescaped};
 pub use text::text_of;
 pub use token::{Token, TokenKind};
 pub use tokenizer::{Tokenizer, token_count};
-
-#[cfg(test)]
-mod tests;

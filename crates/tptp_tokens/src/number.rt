@@ -7,15 +7,15 @@ ghost use Rattle.me_terms.specs.Labels.{is_digit};
 ghost use Rattle.tptp_tokens.specs.Fronts.{Stops, IsRun, IsAfter, HasNoFront};
 ghost use Rattle.tptp_tokens.specs.Numbers.{IsDigits, IsSign, IsDigitsBehind, IsFraction, IsPower, IsExponent, IsTail, IsNumber};
 
-use crate::bytes::{after_byte, after_digit_run, digit, split};
+use crate::bytes::{after_byte, after_digit_run, is_digit, split};
 
 /// What comes after the digits at the front, of which there is at least one.
 fn after_digits(bytes: &[u8]) -> Option<&[u8]>
-    ensures some { IfSome result (λ rest. (run : List ℕ) × IsRun is_digit bytes.now run rest.now × IsDigits run) }
+    ensures some { IfSome result (λ rest. (run : List ℕ) × IsRun is_digit run bytes.now rest.now × IsDigits run) }
     ensures none { IfNone result (Stops is_digit bytes.now) }
 {
     match split(bytes) {
-        Some((byte, _)) if digit(byte) => Some(after_digit_run(bytes)),
+        Some((byte, _)) if is_digit(byte) => Some(after_digit_run(bytes)),
         _ => None,
     }
 }

@@ -3,16 +3,15 @@
 //! Between quotes stand printable bytes, with a backslash before each quote of that kind and each
 //! backslash. What the text means is that with these backslashes taken off.
 ghost use Rattle.std.specs.Prelude.{◌≡◌, ◌≢◌, ◌≤◌, ◌<◌, ℕ, List, length, IfOk, IfSome, IfNone};
-ghost use Rattle.tptp_tokens.specs.Founds.{BeginsPrintable, IsPrintables, IsClosed};
+ghost use Rattle.tptp_tokens.specs.Founds.{BeginsPrintable, IsPrintables, IsClosedQuote};
 ghost use Rattle.tptp_tokens.specs.Quoted.{is_escaped, unescaped};
 
-use crate::bytes::{after_byte, printable};
-use crate::text::push;
+use crate::bytes::{after_byte, is_printable};
 use me_terms::Text;
 use std::alloc::{AllocError, Global};
 
-/// Whether the byte is written with a backslash.
-fn escaped(byte: u8, quote: u8) -> bool
+/// Whether the byte is written with a backslash between two of these quotes.
+pub fn is_escaped(byte: u8, quote: u8) -> bool
     ensures { result ≡ is_escaped quote byte }
 {
     byte == quote || byte == b'\\'
@@ -27,12 +26,12 @@ fn after_printable(bytes: &[u8], quote: u8) -> Option<&[u8]>
     match bytes {
         [] => None,
         [b'\\'] => None,
-        [b'\\', byte, rest @ ..] => if escaped(*byte, quote) && printable(*byte) {
+        [b'\\', byte, rest @ ..] => if is_escaped(*byte, quote) && is_printable(*byte) {
             Some(rest)
         } else {
             None
         },
-        [byte, rest @ ..] => if printable(*byte) && *byte != quote {
+        [byte, rest @ ..] => if is_printable(*byte) && *byte != quote {
             Some(rest)
         } else {
             None
@@ -56,8 +55,8 @@ fn after_printables(bytes: &[u8], quote: u8) -> &[u8]
 /// Behind a quote: what stands before the second quote, and what comes after that.
 pub(crate) fn closed(bytes: &[u8], quote: u8) -> Option<(&[u8], &[u8])>
     requires { quote ≢ 92 }
-    ensures some { IfSome result (λ x. IsClosed quote bytes.now x.0.now x.1.now) }
-    ensures none { IfNone result ((inside rest : List ℕ) → IsClosed quote bytes.now inside rest → ⊥) }
+    ensures some { IfSome result (λ x. IsClosedQuote quote x.0.now bytes.now x.1.now) }
+    ensures none { IfNone result ((inside rest : List ℕ) → IsClosedQuote quote inside bytes.now rest → ⊥) }
 {
     let end = after_printables(bytes, quote);
     match after_byte(end, quote) {
@@ -78,7 +77,7 @@ pub fn unescaped(alloc: Global, written: &[u8]) -> Result<Text, AllocError>
             pending = true;
             continue;
         }
-        push(&mut text, *byte)?;
+        text.push(*byte).map_err(|_| AllocError)?;
         pending = false;
     }
     Ok(text)

@@ -2,35 +2,13 @@
 //!
 //! The text of a token that stands in quotes has no backslash of a pair left. Names are compared by
 //! these texts.
-ghost use Rattle.std.specs.Prelude.{◌≡◌, [], ◌∷◌, ◌++◌, OnOk, IfOk};
+ghost use Rattle.std.specs.Prelude.{◌≡◌, IfOk};
 ghost use Rattle.tptp_tokens.specs.Tokens.{token_value};
 
 use crate::quoted::unescaped;
 use crate::token::{Token, TokenKind};
 use me_terms::Text;
 use std::alloc::{AllocError, Global};
-
-/// Puts a byte at the end.
-pub(crate) fn push(text: &mut Text, byte: u8) -> Result<(), AllocError>
-    ensures { OnOk result (text.new.items ≡ text.old.items ++ byte ∷ []) }
-{
-    match text.push(byte) {
-        Ok(()) => Ok(()),
-        Err(_) => Err(AllocError),
-    }
-}
-
-/// The same bytes in a list of their own.
-fn copied(alloc: Global, bytes: &[u8]) -> Result<Text, AllocError>
-    ensures { IfOk result (λ text. text.items ≡ bytes.now) }
-{
-    let mut text = Text::new(alloc);
-    text.reserve(bytes.len() as u64)?;
-    'bytes: for byte in bytes {
-        push(&mut text, *byte)?;
-    }
-    Ok(text)
-}
 
 /// The text of a token: what stands between its quotes, with each pair of a backslash and a byte read
 /// as the byte, or all its bytes where it has no quotes. The error says that memory is out.
@@ -39,6 +17,6 @@ pub fn text_of(alloc: Global, token: &Token<'_>) -> Result<Text, AllocError>
 {
     match token.kind {
         TokenKind::SingleQuoted | TokenKind::Distinct => unescaped(alloc, token.text),
-        _ => copied(alloc, token.text),
+        _ => Text::from_slice(token.text, alloc),
     }
 }

@@ -4,7 +4,7 @@
 //! at each byte a bounded number of times.
 ghost use Rattle.std.specs.Prelude.{◌≡◌, ◌<◌, [], List, length, IfSome, IfNone};
 ghost use Rattle.tptp_tokens.specs.Gaps.{IsGap};
-ghost use Rattle.tptp_tokens.specs.Tokens.{PlacedToken, IsNext, IsCut, placed_token};
+ghost use Rattle.tptp_tokens.specs.Tokens.{PlacedToken, IsNextToken, IsCut, placed_token};
 
 use crate::first::first;
 use crate::gap::after_gap;
@@ -40,7 +40,7 @@ impl<'a> Tokenizer<'a> {
 
     /// The next token, and none where a gap alone is left. A bad token is the last one.
     pub fn next(&mut self) -> Option<Token<'a>>
-        ensures some { IfSome result (λ token. IsNext self.old (placed_token token) self.new) }
+        ensures some { IfSome result (λ token. IsNextToken self.old (placed_token token) self.new) }
         ensures shorter { IfSome result (λ _. length self.new.bytes < length self.old.bytes) }
         ensures none { IfNone result (IsGap self.old.bytes []) }
         ensures unchanged { IfNone result (self.new ≡ self.old) }

@@ -4,7 +4,7 @@ use Rattle.me_terms.specs.Values.{ProblemValue, EntryValue}
 use Rattle.me_terms.specs.Positions.{ClauseAt}
 use Rattle.me_terms.specs.Assert.{IsAssert}
 use Rattle.joint_unifiers.specs.ClauseUnifiers.{UnifierValue, IsUnifierOf}
-use Rattle.assert_rule.specs.AssertOrder.{ComesBefore}
+use Rattle.assert_rule.specs.AssertOrder.{ComesBeforeBest}
 use Rattle.assert_rule.specs.AssertedEntries.{Asserts, AssertsBy}
 use Rattle.assert_rule.proofs.Owed.{asserts_of, of_asserts, some_map, none_map}
 use Rattle.assert_rule.proofs.asserting.assert_before.Goals as goal
@@ -33,6 +33,6 @@ returns-in_ok-assert_by-in-Some-clause-none g c =
     let best = option_copied c.args.best in
     let P : Option UnifierValue → Type 0 = λ o. IfSome o (IsUnifierOf context clause.literals (Some place) tuple) in
     let of : IsUnifierOf context clause.literals (Some place) tuple u = subst P c.in-Some.is c.in_ok-unifier.ensures.unifier in
-    none_map c.in_ok-assert_by-in-Some.field-0 ((e : EntryValue) → AssertsBy u bounds context c.args.index place e → ¬ ComesBefore e best)
-    ((problem : ProblemValue) (e : EntryValue) → ClauseAt problem c.args.index clause → IsAssert problem bounds context c.args.index place tuple e → ¬ ComesBefore e best)
+    none_map c.in_ok-assert_by-in-Some.field-0 ((e : EntryValue) → AssertsBy u bounds context c.args.index place e → ¬ ComesBeforeBest e best)
+    ((problem : ProblemValue) (e : EntryValue) → ClauseAt problem c.args.index clause → IsAssert problem bounds context c.args.index place tuple e → ¬ ComesBeforeBest e best)
     (λ h problem e at a. h e (of_asserts u problem bounds context clause c.args.index place tuple e of at a)) c.in_ok-assert_by-in-Some.ensures.none

@@ -10,7 +10,7 @@ use Rattle.me_terms.specs.Assert.{asserted_kind}
 use Rattle.me_terms.specs.declared.atom.Literal.{Literal}
 use Rattle.joint_unifiers.proofs.Fitting.{fitting_weight}
 use Rattle.joint_unifiers.proofs.CanonicalMeasures.{canonical_weight}
-use Rattle.assert_rule.specs.AssertOrder.{IsBeforeBest, ComesBefore}
+use Rattle.assert_rule.specs.AssertOrder.{IsBeforeBest, ComesBeforeBest}
 use Rattle.assert_rule.specs.AssertedEntries.{AssertsBy}
 use Rattle.assert_rule.proofs.Owed.{at_within, kind_is, weight_is, none_left, must_fit, must_be_before, must_be_new, written, asserted}
 use Rattle.assert_rule.proofs.asserting.assert_by.Goals as goal

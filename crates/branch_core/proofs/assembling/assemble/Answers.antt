@@ -23,10 +23,10 @@ decided_known : (n : ℕ) (filled : List PartValue) (reply : AnswerValue) → De
 decided_known n filled reply decides lacks = let P : Total → Type 0 = λ t. Decides t reply in subst P (lacking_loses n filled lacks) decides
 
 answers_whole : (records : List RecordValue) (n : ℕ) (filled : List PartValue) (reply : AnswerValue) → ArePartsOf records [] filled → Decides (total_of n filled) reply → AnswersWhole records n reply
-answers_whole records n filled reply are decides problem bounds positive same whole =
+answers_whole records n filled reply are decides problem bounds same whole =
     let here : Decides (total_of bounds.list filled) reply = subst (λ (m : ℕ). Decides (total_of m filled) reply) (sym same) decides in
-    let x = answer_from whole_cuts_follow problem bounds positive records are.0 filled whole are.1 are.2 are.3 (decided_known bounds.list filled reply here) in
-    subst (HasAnswer problem bounds positive) (decides_once (total_of bounds.list filled) x.0 reply x.1 here) x.2
+    let x = answer_from whole_cuts_follow problem bounds records are.0 filled whole are.1 are.2 are.3 (decided_known bounds.list filled reply here) in
+    subst (HasAnswer problem bounds) (decides_once (total_of bounds.list filled) x.0 reply x.1 here) x.2
 
 lacks_none : (records : List RecordValue) (n : ℕ) (filled : List PartValue) (result : Result Answer AllocError) → CanAssemble records → ArePartsOf records [] filled → IfOk result (λ answer. Decides (total_of n filled) (answer_value answer)) → RecordsLackMemory records → IsErr result
 lacks_none records n filled (Ok answer) whole are decides lacks =

@@ -1,9 +1,9 @@
-use Rattle.std.proofs.Common.{false, refl, sym, subst, ap, ◌∙◌}
+use Rattle.std.proofs.Common.{refl, sym, subst, ap, ◌∙◌}
 use Rattle.me_terms.specs.Context.{Context}
 use Rattle.me_terms.specs.Grown.{IsGrown, start, started}
 use Rattle.branch_core.specs.Paths.{Turns}
-use Rattle.branch_walk.specs.Jobs.{turns_taken}
-use Rattle.branch_walk.specs.Portions.{IsPortion}
+use Rattle.branch_walk.specs.Jobs.{IsJob, turns_taken}
+use Rattle.branch_core.specs.Portions.{IsPortion}
 use Rattle.branch_walk.proofs.OwnParts.{own_alone}
 use Rattle.branch_walk.proofs.PortionEnds.{whole_alone}
 use Rattle.branch_walk.proofs.TreesBelow.{tree_of}
@@ -11,21 +11,21 @@ use Rattle.branch_walk.proofs.alone.walk_alone.Goals as goal
 
 pub walk_portion-requires-clause-job : goal.walk_portion-requires-clause-job
 walk_portion-requires-clause-job c =
-    let G : Context → Type 0 = λ x. IsGrown c.args.problem.now c.args.bounds.now false x in
-    record {
-      grown = (false, subst G (sym c.in_ok-branch.ensures) started);
+    let G : Context → Type 0 = λ x. IsGrown c.args.problem.now c.args.bounds.now x in
+    let job : IsJob c.args.problem.now c.args.bounds.now c.root-path.result c.in_ok-branch.branch = record {
+      grown = subst G (sym c.in_ok-branch.ensures) started;
       turns = ap turns_taken c.in_ok-branch.ensures ∙ sym c.root-path.ensures;
-    }
+    } in
+    (job, λ gift work may is_job at. tt)
 
 pub returns : goal.returns
 returns c =
     let problem = c.args.problem.now in
     let bounds = c.args.bounds.now in
     let p = c.walk_portion.ensures.portion in
-    let t = tree_of problem bounds false (start false) started in
-    let G : Context → Type 0 = λ x. IsGrown problem bounds false x in
+    let t = tree_of problem bounds (start bounds.start) started in
     let I : Turns → Type 0 = λ path. IsPortion bounds.list 0 t.0 path p.0 p.2 p.1 c.walk_portion.result in
-    let portion = subst I c.root-path.ensures (p.6 false t.0 (subst G (sym c.in_ok-branch.ensures) started) t.1) in
+    let portion = subst I c.root-path.ensures (p.6 t.0 t.1) in
     record {
       whole = whole_alone problem bounds c.walk_portion.result p.0 p.2 p.1 (sym p.3) (sym p.4) t.0 t.1 portion;
       own = own_alone p.0 p.2 p.1 (sym p.3) (sym p.4) (c.walk_portion.ensures.one_part refl refl) portion;

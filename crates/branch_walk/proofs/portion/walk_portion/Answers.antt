@@ -24,6 +24,6 @@ returns-clause-portion g c =
       w.hears.seen,
       w.hears.given,
       w.hears.posted,
-      λ positive search grown tree.
-          portion problem bounds c.args.share path (g.T.View.context c.args.job.branch) positive grown c.requires.job.turns c.spine-state.result first now c.new-tally.result c.spine-state.new.tally w done.0 done.1 through _ (λ i. record { path = path; parts = done.2 i }) search tree,
+      λ search tree.
+          portion problem bounds c.args.share path (g.T.View.context c.args.job.branch) c.requires.job.0.grown c.requires.job.0.turns c.spine-state.result first now c.new-tally.result c.spine-state.new.tally w done.0 done.1 through _ (λ i. record { path = path; parts = done.2 i }) search tree,
     )

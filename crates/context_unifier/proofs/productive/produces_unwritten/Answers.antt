@@ -8,7 +8,7 @@ use Rattle.me_terms.specs.declared.atom.Literal.{Literal}
 use Rattle.me_unify.specs.Equations.{IsMostGeneral}
 use Rattle.me_unify.specs.ClauseEquations.{clause_equations}
 use Rattle.joint_unifiers.proofs.Bridge.{unifier_iff}
-use Rattle.context_unifier.specs.Frozen.{Tells}
+use Rattle.context_unifier.specs.Frozen.{TellInstances}
 use Rattle.context_unifier.specs.declared.frozen.Frozen.{Frozen}
 use Rattle.context_unifier.proofs.Produced.{produced_by_it}
 use Rattle.context_unifier.proofs.Undisputed.{unwritten}
@@ -25,7 +25,7 @@ returns-in_ok-has_exception-in-Some g c f l general own used =
     let by_tuple = (unifier_iff context literals (positions_of None c.args.u.now.tuple) f).1 ((c.requires.unifier.families f).0 general) in
     let most : IsMostGeneral (clause_equations context literals (positions_of None c.tuple.result.now.items)) f =
     subst (λ (ks : List ℕ). IsMostGeneral (clause_equations context literals (positions_of None ks)) f) (sym c.tuple.ensures.positions) by_tuple in
-    let P : Frozen → Type 0 = λ z. (h : Family) → IsMostGeneral (clause_equations context literals (positions_of None c.tuple.result.now.items)) h → Tells z.one z.other item.atom (apply_atom (h 0) item.atom) in
+    let P : Frozen → Type 0 = λ z. (h : Family) → IsMostGeneral (clause_equations context literals (positions_of None c.tuple.result.now.items)) h → TellInstances z.one z.other item.atom (apply_atom (h 0) item.atom) in
     let tells = subst (λ (o : Option Frozen). IfSome o P) c.in-Some.is c.in_ok-frozen.ensures in
     unwritten context c.args.k c.args.entry.now f place l item c.in_ok-has_exception-in-Some.field-0 used c.requires.parametric same (c.in_ok-has_exception-in-Some.ensures (apply_atom (f 0) item.atom) (tells f most))
 

@@ -8,11 +8,11 @@ use Rattle.darwin_cli.proofs.answer.answer_to.Goals as goal
 
 pub returns-clause-sure : goal.returns-clause-sure
 returns-clause-sure c =
-    let found = c.solve_alone.ensures in
-    sure_is c.args.problem.now c.args.options.now.bounds c.solve_alone.result found.answer found.refuted found.model found.function_free
+    let found = c.deepen_alone.ensures in
+    sure_is c.args.problem.now c.args.options.now.bounds c.args.options.now.from c.deepen_alone.result found.answer found.refuted found.model found.function_free
 
 pub returns-clause-printable : goal.returns-clause-printable
 returns-clause-printable c =
     let P : Answer → Type 0 = λ answer. IsOverProblem c.args.problem.now (answer_value answer) in
     let Q : Answer → Type 0 = λ answer. IsPrintable c.args.problem.now answer in
-    if_ok c.solve_alone.result P Q (λ answer over. printable_is c.args.problem.now answer over) c.solve_alone.ensures.printable
+    if_ok c.deepen_alone.result P Q (λ answer over. printable_is c.args.problem.now answer over) c.deepen_alone.ensures.printable

@@ -12,5 +12,5 @@ returns c =
     let options = c.args.options.now in
     let problem = c.args.problem.now in
     let P : Vec ℕ Global → Type 0 = λ text. IsAnswerText options.name.items problem c.in_ok-answer.answer text.items in
-    let Q : Vec ℕ Global → Type 0 = λ text. (answer : Answer) × IsSure problem options.bounds (answer_value answer) × IsAnswerText options.name.items problem answer text.items in
+    let Q : Vec ℕ Global → Type 0 = λ text. (answer : Answer) × IsSure problem options.bounds options.from (answer_value answer) × IsAnswerText options.name.items problem answer text.items in
     if_ok c.print_answer.result P Q (λ text is. (c.in_ok-answer.answer, c.in_ok-answer.ensures.sure, is)) c.print_answer.ensures

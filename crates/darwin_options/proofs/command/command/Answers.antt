@@ -14,4 +14,6 @@ returns c =
     let five = c.in_ok-arg-5.ensures.shape c.option-5.ensures.local ∙ ap₂ with_rule four c.option-5.ensures.rule in
     let six = c.in_ok-arg-6.ensures.shape c.option-6.ensures.local ∙ ap₂ with_rule five c.option-6.ensures.rule in
     let seven = c.in_ok-arg-7.ensures.shape c.option-7.ensures.local ∙ ap₂ with_rule six c.option-7.ensures.rule in
-    IfOk-weaker c.arg-8.result _ _ (λ r h. h.shape c.option-8.ensures.local ∙ ap₂ with_rule seven c.option-8.ensures.rule) c.arg-8.ensures
+    let eight = c.in_ok-arg-8.ensures.shape c.option-8.ensures.local ∙ ap₂ with_rule seven c.option-8.ensures.rule in
+    let nine = c.in_ok-arg-9.ensures.shape c.option-9.ensures.local ∙ ap₂ with_rule eight c.option-9.ensures.rule in
+    IfOk-weaker c.arg-10.result _ _ (λ r h. h.shape c.option-10.ensures.local ∙ ap₂ with_rule nine c.option-10.ensures.rule) c.arg-10.ensures

@@ -7,7 +7,7 @@ use Rattle.me_terms.specs.declared.atom.Literal.{Literal}
 use Rattle.me_unify.specs.Equations.{Equation, equation, IsSolvable, IsMostGeneral}
 use Rattle.me_unify.specs.ClauseEquations.{equations_from}
 use Rattle.ground_refutation.specs.AskedEquations.{asked_equations}
-use Rattle.ground_refutation.specs.Queue.{IsAskedFor}
+use Rattle.ground_refutation.specs.Queue.{IsDemanded}
 use Rattle.instance_lists.specs.declared.error.ListError.{ListError}
 use Rattle.instance_lists.specs.declared.error.ListError.TheVariants.{TooHeavy}
 use Rattle.ground_refutation.specs.declared.instance.Weighed.{Weighed}
@@ -51,7 +51,7 @@ returns-clause-exact g c =
     let most = subst (λ (qs : List Equation). IsMostGeneral qs v.0) all v.1 in
     let c0 : c.problem.inside.c0 ≡ c.args.problem.now.c0 = ap (λ (p : ProblemValue). p.c0) c.problem.view_is in
     let P : Weighed → Type 0 = λ w. (u : Family) → IsMostGeneral c.unify.new.self u → w.literals.items ≡ instance_of u (λ x. constant c.problem.inside.c0) ls in
-    let Q : Weighed → Type 0 = λ w. (literals : List Literal) → IsAskedFor c.args.problem.now context c.args.clause c.args.place ks g' literals → w.literals.items ≡ literals in
+    let Q : Weighed → Type 0 = λ w. (literals : List Literal) → IsDemanded c.args.problem.now context c.args.clause c.args.place ks g' literals → w.literals.items ≡ literals in
     if_ok_map c.instance_within.result P Q (λ w h literals asked.
     h v.0 v.1 ∙ (ap (λ n. instance_of v.0 (λ x. constant n) ls) c0 ∙ asked_is c.args.problem.now context c.args.clause c.args.place ks g' ls own literals asked c.literals_of-literals.ensures c.index-literals-place.is v.0 most))
     c.instance_within.ensures.exact
@@ -69,7 +69,7 @@ returns-clause-heavy g c =
     let most = subst (λ (qs : List Equation). IsMostGeneral qs v.0) all v.1 in
     let c0 : c.problem.inside.c0 ≡ c.args.problem.now.c0 = ap (λ (p : ProblemValue). p.c0) c.problem.view_is in
     let P : ListError → Type 0 = λ e. e ≡ TooHeavy → (u : Family) → IsMostGeneral c.unify.new.self u → c.args.bound < literals_weight (instance_of u (λ x. constant c.problem.inside.c0) ls) in
-    let Q : ListError → Type 0 = λ e. e ≡ TooHeavy → (literals : List Literal) → IsAskedFor c.args.problem.now context c.args.clause c.args.place ks g' literals → c.args.bound < literals_weight literals in
+    let Q : ListError → Type 0 = λ e. e ≡ TooHeavy → (literals : List Literal) → IsDemanded c.args.problem.now context c.args.clause c.args.place ks g' literals → c.args.bound < literals_weight literals in
     let R : List Literal → Type 0 = λ ms. c.args.bound < literals_weight ms in
     if_err_map c.instance_within.result P Q (λ e h is literals asked.
     subst R (ap (λ n. instance_of v.0 (λ x. constant n) ls) c0 ∙ asked_is c.args.problem.now context c.args.clause c.args.place ks g' ls own literals asked c.literals_of-literals.ensures c.index-literals-place.is v.0 most) (h is v.0 v.1))

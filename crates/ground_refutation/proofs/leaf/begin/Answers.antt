@@ -7,7 +7,7 @@ use Rattle.me_terms.specs.Measures.{literals_weight, list_weight}
 use Rattle.me_terms.specs.declared.atom.Literal.{Literal}
 use Rattle.me_laws.proofs.Lists.{EachOf}
 use Rattle.me_laws.proofs.OutcomeDetermined.{closing_unique}
-use Rattle.me_refutation.proofs.Demands.{IsRight}
+use Rattle.me_laws_refutation.proofs.Demands.{IsRight}
 use Rattle.ground_refutation.specs.Queue.{Completes}
 use Rattle.instance_lists.specs.declared.error.ListError.{ListError}
 use Rattle.instance_lists.specs.declared.error.ListError.TheVariants.{TooHeavy}

@@ -3,15 +3,15 @@ use Rattle.std.proofs.lemmas.Bool.Decides.{leb_tells}
 use Rattle.me_terms.specs.Values.{InstanceValue}
 use Rattle.me_terms.specs.FirstOccurrences.{first_occurrences, joined}
 use Rattle.me_terms.specs.Measures.{list_weight}
-use Rattle.instance_lists.specs.News.{news, marked}
+use Rattle.instance_lists.specs.News.{news, kept_by_marks}
 use Rattle.instance_lists.proofs.FirstOccurrences.{first-again}
 use Rattle.instance_lists.proofs.Joining.{joined_new, weight-append}
 use Rattle.instance_lists.proofs.merging.merge.Goals as goal
 
 -- the joined list, from the calls: the marks are those of the new instances, and those are added
-joins : (into more added : List InstanceValue) (marks marks' : List Bool) → first_occurrences into ≡ into → marks ≡ news into more → marks' ≡ marks → added ≡ marked marks' more → joined into more ≡ into ++ added
+joins : (into more added : List InstanceValue) (marks marks' : List Bool) → first_occurrences into ≡ into → marks ≡ news into more → marks' ≡ marks → added ≡ kept_by_marks marks' more → joined into more ≡ into ++ added
 joins into more added marks marks' once found same kept =
-    joined_new into more once ∙ ap (λ (xs : List InstanceValue). into ++ xs) (sym (kept ∙ ap (λ (ms : List Bool). marked ms more) (same ∙ found)))
+    joined_new into more once ∙ ap (λ (xs : List InstanceValue). into ++ xs) (sym (kept ∙ ap (λ (ms : List Bool). kept_by_marks ms more) (same ∙ found)))
 
 pub returns-clause-ok : goal.returns-clause-ok
 returns-clause-ok c =

@@ -1,5 +1,5 @@
 use Rattle.std.proofs.Common.{◌≡◌, length}
-use Rattle.joint_unifiers.specs.Measured.{AreMeasures}
+use Rattle.joint_unifiers.proofs.Measuring.{AreMeasures}
 use Rattle.joint_unifiers.proofs.unifier.measures_of.Given as goal
 
 -- The literals so far are measured, and the equations stay.

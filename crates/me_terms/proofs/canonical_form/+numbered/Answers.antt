@@ -12,6 +12,7 @@ pub numbered_all-loop-k-preserved : goal.numbered_all-loop-k-preserved
 numbered_all-loop-k-preserved t c = record {
   names = names_step _ c.loop-k.names.keys c.numbered.new.names.keys c.args.terms.now.items c.loop-k.k (term_value c.in-Some.term.now) (sym c.in-Some.ensures.item) c.in_ok-form.ensures.names c.loop-k.invariant.names;
   made = made_step c.loop-k.names.keys c.numbered.new.names.keys c.loop-k.made.items c.push.new.self.items c.args.terms.now.items c.loop-k.k (term_value c.in-Some.term.now) (term_value c.in_ok-form.form) c.in-Ok.ensures.ok (sym c.in-Some.ensures.item) c.in_ok-form.ensures.names c.in_ok-form.ensures.term c.loop-k.invariant.made;
+  small = c.in_ok-form.ensures.small;
 }
 
 pub numbered_all-returns-clause-names : goal.numbered_all-returns-clause-names

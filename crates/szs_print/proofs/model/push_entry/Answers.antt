@@ -1,4 +1,4 @@
-use Rattle.std.proofs.Common.{◌≡◌, ℕ, List, [], ◌++◌, length, refl, sym, ap, ◌∙◌, subst, Result, Ok, Err}
+use Rattle.std.proofs.Common.{◌≡◌, ℕ, List, [], ◌++◌, length, refl, sym, ap, ◌∙◌, Result, Ok, Err}
 use Rattle.std.proofs.lemmas.List.{append-nil}
 use Rattle.std.proofs.lemmas.Option.{slice_get_read}
 use Rattle.std.proofs.lemmas.Bool.{false≢true}
@@ -21,18 +21,14 @@ returns-in_default c =
 pub returns-then-is_covered : goal.returns-then-is_covered
 returns-then-is_covered c =
     let e = c.index-entries-k.result in
-    let atom_is = sym (ap (λ v. v.atom) c.entry.view_is) ∙ c.in-Of.is in
-    let sign_is = ap (λ v. v.positive) c.entry.view_is in
-    let cover = subst (λ b. HasCover b c.in-Of.atom (after c.args.k c.args.entries.now)) sign_is (c.is_covered.ensures.0 c.if-is_covered.true) in
-    ([], covered_text c.args.signature.now c.args.entries.now c.args.k e c.in-Of.atom c.requires c.index-entries-k.is atom_is cover, sym (append-nil _))
+    ([], covered_text c.args.signature.now c.args.entries.now c.args.k e c.requires c.index-entries-k.is (c.is_covered.ensures.0 c.if-is_covered.true), sym (append-nil _))
 
 pub returns : goal.returns
 returns c =
     let e = c.index-entries-k.result in
     let a = c.in-Of.atom in
     let atom_is = sym (ap (λ v. v.atom) c.entry.view_is) ∙ c.in-Of.is in
-    let sign_is = ap (λ v. v.positive) c.entry.view_is in
-    let uncovered : HasCover e.positive a (after c.args.k c.args.entries.now) → ⊥ = λ h. false≢true (sym c.if-is_covered.false ∙ c.is_covered.ensures.1 (subst (λ b. HasCover b c.in-Of.atom (after c.args.k c.args.entries.now)) (sym sign_is) h)) in
+    let uncovered : HasCover e (after c.args.k c.args.entries.now) → ⊥ = λ h. false≢true (sym c.if-is_covered.false ∙ c.is_covered.ensures.1 h) in
     let line = literal_line c.args.signature.now c.args.k e.positive a e.kind in
     let P : Type 0 = c.push_literal.new.out.items ≡ c.args.out.now.items ++ line in
     let Q : Type 0 = (x : List ℕ) × IsTextAt c.args.signature.now c.args.entries.now c.args.k x × (c.push_literal.new.out.items ≡ c.args.out.now.items ++ x) in

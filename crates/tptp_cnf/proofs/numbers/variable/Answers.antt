@@ -1,4 +1,5 @@
-use Rattle.tptp_cnf.proofs.Variables.{added, placed}
+use Rattle.tptp_grammar.proofs.Variables.{added}
+use Rattle.tptp_cnf.proofs.Variables.{placed}
 use Rattle.tptp_cnf.proofs.numbers.variable.Goals as goal
 
 pub returns-in-Ok-clause-number : goal.returns-in-Ok-clause-number

@@ -2,9 +2,10 @@ use Rattle.std.proofs.Common.{◌≡◌, Result, Err, refl, sym, subst, arith}
 use Rattle.std.specs.Prelude.{IfErr}
 use Rattle.std.proofs.lemmas.Result.{err_from_is_err_and}
 use Rattle.tptp_cnf.specs.declared.error.CnfError.{CnfError}
-use Rattle.tptp_cnf.specs.Causes.{IsCause}
+use Rattle.tptp_cnf.specs.Causes.{IsErrorCause}
 use Rattle.tptp_cnf.proofs.Reached.{reached_more, stopped, ended_early, means, not_between}
 use Rattle.tptp_cnf.specs.Files.{IsFile}
+use Rattle.tptp_cnf.proofs.Rooms.{counts_few, numberable}
 use Rattle.tptp_cnf.proofs.Sizes.{small}
 use Rattle.tptp_cnf.proofs.Valid.{valid}
 use Rattle.tptp_cnf.proofs.read.read_problem.Goals as goal
@@ -12,13 +13,22 @@ use Rattle.tptp_cnf.proofs.read.read_problem.Goals as goal
 on_err : {A : Type 0} (r : Result A CnfError) (P : CnfError → Type 0) (y e : CnfError) → r ≡ Err y → y ≡ e → P e → IfErr r P
 on_err {A} r P y e h k p = subst (λ (x : Result A CnfError). IfErr x P) (sym h) (subst P (sym k) p)
 
+pub step-requires-clause-counts : goal.step-requires-clause-counts
+step-requires-clause-counts c = counts_few _ _ _ _ c.requires c.tokens.invariant
+
+pub step-requires-clause-numbers : goal.step-requires-clause-numbers
+step-requires-clause-numbers c = numberable _ _ _ _ c.requires c.tokens.invariant
+
+pub finish-requires : goal.finish-requires
+finish-requires c = numberable _ _ _ _ c.requires c.tokens.invariant
+
 pub tokens-preserved : goal.tokens-preserved
 tokens-preserved c = reached_more _ _ _ _ _ _ _ _ c.tokens.invariant c.in-Some.ensures.some c.in_ok-step.ensures.goes c.in_ok-step.ensures.fed
 
 pub returns-in_err-step-clause-cause : goal.returns-in_err-step-clause-cause
 returns-in_err-step-clause-cause c =
     let p = err_from_is_err_and c.from_residual.result c.from_residual.ensures.1 in
-    on_err c.from_residual.result (IsCause c.args.bytes.now) _ _ p.1 p.2 (stopped _ _ _ _ _ _ _ c.tokens.invariant c.in-Some.ensures.some c.in_err-step.ensures.refused)
+    on_err c.from_residual.result (IsErrorCause c.args.bytes.now) _ _ p.1 p.2 (stopped _ _ _ _ _ _ _ c.tokens.invariant c.in-Some.ensures.some c.in_err-step.ensures.refused)
 
 pub returns-then-not-is_whole-clause-cause : goal.returns-then-not-is_whole-clause-cause
 returns-then-not-is_whole-clause-cause c = ended_early _ _ _ _ _ c.tokens.invariant c.in_default.ensures.none (not_between _ _ c.is_whole.ensures c.if-not-is_whole.true) refl

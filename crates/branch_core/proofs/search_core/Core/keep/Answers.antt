@@ -2,7 +2,7 @@ use Rattle.std.proofs.Common.{◌≡◌, ◌<◌, ℕ, ◌-◌, ◌++◌, [], �
 use Rattle.branch_core.specs.Paths.{Turns, code}
 use Rattle.branch_core.specs.Core.{StateValue, Ended, with_state}
 use Rattle.branch_core.specs.Parts.{RecordValue}
-use Rattle.branch_core.specs.CoreTable.{CoreTable, HasRoom, state_at, may_end, core_value}
+use Rattle.branch_core.specs.CoreTable.{CoreTable, HasTableRoom, state_at, may_end, core_value}
 use Rattle.branch_core.specs.EventViews.{state_value}
 use Rattle.branch_core.specs.declared.event.PathState.{PathState}
 use Rattle.branch_core.specs.declared.event.PathState.TheVariants as path_state
@@ -15,11 +15,11 @@ place states path table e h = omega (arith, h, ap (λ (xs : List StateValue). le
 once : (states : List StateValue) (path : Turns) (table : CoreTable) → states ≡ table.states → may_end (state_at table.states path) ≡ 1 → may_end (state_at states path) ≡ 1
 once states path table e h = ap (λ (xs : List StateValue). may_end (state_at xs path)) e ∙ h
 
-has_one : (share len cap : ℕ) (states : List StateValue) (path : Turns) → HasRoom share states (cap - len) → code path < length states → may_end (state_at states path) ≡ 1 → len < cap
+has_one : (share len cap : ℕ) (states : List StateValue) (path : Turns) → HasTableRoom share states (cap - len) → code path < length states → may_end (state_at states path) ≡ 1 → len < cap
 has_one share len cap states path has h e = omega (arith, has.records, e, counts_one states (code path) h)
 
-cap_same : (share cap cap' len : ℕ) (states : List StateValue) → cap' ≡ cap → HasRoom share states (cap - len) → HasRoom share states (cap' - len)
-cap_same share cap cap' len states e has = subst (λ n. HasRoom share states (n - len)) (sym e) has
+cap_same : (share cap cap' len : ℕ) (states : List StateValue) → cap' ≡ cap → HasTableRoom share states (cap - len) → HasTableRoom share states (cap' - len)
+cap_same share cap cap' len states e has = subst (λ n. HasTableRoom share states (n - len)) (sym e) has
 
 shown : (share k : ℕ) (items : List PathState) (least : Option ℕ) (kept more : List RecordValue) (record' : RecordValue) (table : CoreTable) (path : Turns) → record { share = share; states = map state_value items; least = least; kept = kept } ≡ table → k ≡ code path → code path < length (map state_value items) → more ≡ kept ++ record' ∷ [] → core_value (record { share = share; states = map state_value (slice_set items k path_state.Ended); least = least; kept = more }) ≡ record (core_value table) { states = with_state (core_value table).states path Ended; kept = table.kept ++ record' ∷ [] }
 shown share k items least kept more record' table path e at h g =

@@ -1,6 +1,6 @@
 use Rattle.std.proofs.Common.{◌≤◌, ◌⊎◌, inl, inr, Option, ◌≡◌, ◌<◌, ℕ, List, length, map, ap, ◌∙◌, arith}
 use Rattle.branch_core.specs.Paths.{Turns, code}
-use Rattle.branch_core.specs.CoreTable.{CoreTable, HasRoom, state_at, may_end}
+use Rattle.branch_core.specs.CoreTable.{CoreTable, HasTableRoom, state_at, may_end}
 use Rattle.branch_core.specs.Parts.{RecordValue}
 use Rattle.branch_core.specs.EventViews.{state_value}
 use Rattle.branch_core.specs.declared.event.PathState.{PathState}
@@ -10,7 +10,7 @@ use Rattle.branch_core.proofs.search_core.Core.put_state.Goals as goal
 below : (k n : ℕ) (items : List PathState) (path : Turns) → k ≡ code path → n ≡ length items → code path < length (map state_value items) → k < n
 below k n items path e g h = omega (arith, e, g, h, map_length state_value items)
 
-place_of : (share room : ℕ) (items : List PathState) {least : Option ℕ} {kept : List RecordValue} (table : CoreTable) (path : Turns) → HasRoom share (map state_value items) room → record { share = share; states = map state_value items; least = least; kept = kept } ≡ table → (length path ≤ table.share) ⊎ (code path < length table.states) → code path < length (map state_value items)
+place_of : (share room : ℕ) (items : List PathState) {least : Option ℕ} {kept : List RecordValue} (table : CoreTable) (path : Turns) → HasTableRoom share (map state_value items) room → record { share = share; states = map state_value items; least = least; kept = kept } ≡ table → (length path ≤ table.share) ⊎ (code path < length table.states) → code path < length (map state_value items)
 place_of share room items table path has e (inl h) = place_known share 0 room (map state_value items) path has (omega (arith, h, ap (λ (t : CoreTable). t.share) e))
 place_of share room items table path has e (inr h) = omega (arith, h, ap (λ (t : CoreTable). length t.states) e)
 

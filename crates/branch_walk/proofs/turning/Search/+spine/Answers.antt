@@ -3,7 +3,7 @@ use Rattle.me_terms.specs.Context.{Context}
 use Rattle.me_terms.specs.Grown.{IsGrown, went_left}
 use Rattle.branch_core.specs.Paths.{Turns}
 use Rattle.branch_walk.specs.Jobs.{IsJob, turns_taken}
-use Rattle.branch_walk.specs.Tallies.{IsTally, IsOpen}
+use Rattle.branch_walk.specs.Tallies.{IsTally, TakesOwnLeaf}
 use Rattle.branch_walk.specs.Walks.{Heard, HasWalkedLeft}
 use Rattle.branch_walk.specs.declared.tally.Tally.{Tally}
 use Rattle.branch_walk.proofs.Descents.{lifted}
@@ -76,13 +76,13 @@ spine-state-requires g t c κs within =
     let left_is : left ≡ c.args.path ++ false ∷ [] = c.left_path-left.ensures in
     let long = ap (λ (t : Turns). length t) left_is in
     let one_more = length-append c.args.path (false ∷ []) in
-    let G : Context → Type 0 = λ x. IsGrown problem bounds leads.grown.0 x in
-    let O : Tally → Type 0 = λ t. IsOpen t in
+    let G : Context → Type 0 = λ x. IsGrown problem bounds x in
+    let O : Tally → Type 0 = λ t. TakesOwnLeaf t in
     let T : Tally → Type 0 = λ t. IsTally bounds.list t c.requires.kept.0 in
     let room = c.requires.room in
     let spare = ap (λ (t : Tally). t.parts.spare) same in
     let job : IsJob problem bounds left (g.T.View.context c.to_split.new.branch) = record {
-      grown = (leads.grown.0, subst G (sym split.is) (went_left leads.grown.1 split.next));
+      grown = subst G (sym split.is) (went_left leads.grown split.next);
       turns = ap turns_taken split.is ∙ (turns_left node split.l split.kind ∙ (ap (λ (t : Turns). t ++ false ∷ []) path_is ∙ sym left_is));
     } in (
       omega (arith, c.decreases, number, long, one_more, c.from.ensures, c.if-from-share.false),

@@ -1,4 +1,4 @@
-use Rattle.std.proofs.Common.{Bool, ◌++◌, [], ◌∷◌, sym, subst, ap, ◌∙◌, append_assoc}
+use Rattle.std.proofs.Common.{◌++◌, [], ◌∷◌, sym, subst, ap, ◌∙◌, append_assoc}
 use Rattle.me_terms.specs.Values.{SplitLeft, SplitRight}
 use Rattle.me_terms.specs.Context.{Context}
 use Rattle.me_terms.specs.Grown.{IsGrown, split_entry}
@@ -34,7 +34,7 @@ turn_right-requires-clause-grown g c =
     let k = c.requires.left in
     let hl = k.4 in
     let back_there = c.shrink_to.ensures hl.left (hl.stands c.in-Going.is).0 (hl.stands c.in-Going.is).1 hl.at_base in
-    let G : Context → Type 0 = λ x. (sign : Bool) × IsGrown problem bounds sign x in
+    let G : Context → Type 0 = λ x. IsGrown problem bounds x in
     subst G (sym back_there) (left_is_grown problem bounds k.0 c.args.away c.args.right c.args.base c.args.state stands_at k.1 k.2 mid k.3 c.args.tally.now hl)
 
 pub turn_right-requires-clause-left : goal.turn_right-requires-clause-left

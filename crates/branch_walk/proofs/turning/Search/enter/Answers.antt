@@ -51,7 +51,7 @@ returns-in-Ok-add_closed-clause-visited g c =
     let context = g.T.View.context c.args.branch.now in
     let N : Next → Type 0 = λ x. IsNext problem bounds context (next_value x) in
     let grown = c.requires.grown in
-    let leaf = closed_leaf problem bounds grown.0 context grown.1 c.in-Close.clause c.in-Close.tuple.items (subst N c.in-Close.is c.requires.next) c.args.tally.now c.add_closed.new.self c.in-Ok-add_closed.ensures.open c.in-Ok-add_closed.ensures.tally in
+    let leaf = closed_leaf problem bounds context grown c.in-Close.clause c.in-Close.tuple.items (subst N c.in-Close.is c.requires.next) c.args.tally.now c.add_closed.new.self c.in-Ok-add_closed.ensures.open c.in-Ok-add_closed.ensures.tally in
     ([], hears_none here, λ told. (leaf, refl, refl))
 
 pub returns-in-Bounded-clause-visited : goal.returns-in-Bounded-clause-visited

@@ -1,4 +1,4 @@
-use Rattle.std.proofs.Common.{ℕ, ◌≤◌, Bool, List, ◌∷◌, ◌++◌, length, sym, subst, arith}
+use Rattle.std.proofs.Common.{ℕ, ◌≤◌, List, ◌∷◌, ◌++◌, length, sym, subst, arith}
 use Rattle.me_terms.specs.Context.{Context}
 use Rattle.branch_core.specs.Pieces.{Piece}
 use Rattle.branch_walk.specs.Tallies.{IsTally, TakesLoss, cuts, losses}
@@ -21,7 +21,7 @@ pub walk-init : goal.walk-init
 walk-init g c =
     let first : Heard = record { given = g.H.Hook.given c.args.hook.now; seen = g.H.Hook.seen c.args.hook.now; posted = g.H.Hook.posted c.args.hook.now } in
     record {
-      walking = walk_begins c.args.self.now.problem.now c.args.self.now.bounds.now (g.T.View.context c.args.branch.now) first c.args.tally.now c.requires.grown.0 c.requires.grown.1 c.requires.open;
+      walking = walk_begins c.args.self.now.problem.now c.args.self.now.bounds.now (g.T.View.context c.args.branch.now) first c.args.tally.now c.requires.grown c.requires.open;
       pushes = adds_none c.args.tally.now;
       condition = λ path work. (λ h. h, λ h. h);
     }
@@ -111,7 +111,7 @@ back-requires g c =
     let v = c.visit.ensures.visited in
     let at = visited_at problem bounds from to c.walk.tally c.visit.new.tally v.0 v.1 c.visit.result visit.Leaf c.in-Leaf.is v.3 in
     let number = c.len-base.ensures.number in
-    let some = grown_some c.requires.grown.1 in
+    let some = grown_some c.requires.grown in
     let P : Context → Type 0 = λ x. length root ≤ length x in
     let above = subst P (sym at.1) (long problem bounds root w.waits) in
     record { base = (omega (arith, number, some), omega (arith, number, above)) }
@@ -172,9 +172,9 @@ turn_right-requires-clause-grown g c =
     let number = c.len-base.ensures.number in
     let there = subst B (λ i. (number i, at.1 i)) (c.back.ensures.left c.if-not-back.false) in
     let above = there.above in
-    let some = grown_some c.requires.grown.1 in
-    let G : Context → Type 0 = λ x. (sign : Bool) × IsGrown problem bounds sign x in
-    subst G (sym there.now_is) (left_grown problem bounds w.grown.0 from there.before there.later there.left w.grown.1 there.was (omega (arith, above, some)) there.is_left)
+    let some = grown_some c.requires.grown in
+    let G : Context → Type 0 = λ x. IsGrown problem bounds x in
+    subst G (sym there.now_is) (left_grown problem bounds from there.before there.later there.left w.grown there.was (omega (arith, above, some)) there.is_left)
 
 pub turn_right-requires-clause-left : goal.turn_right-requires-clause-left
 turn_right-requires-clause-left g c =
@@ -194,7 +194,7 @@ turn_right-requires-clause-left g c =
     let number = c.len-base.ensures.number in
     let there = subst B (λ i. (number i, at.1 i)) (c.back.ensures.left c.if-not-back.false) in
     let above = there.above in
-    let some = grown_some c.requires.grown.1 in
+    let some = grown_some c.requires.grown in
     record { before = there.before; left = there.left; some = omega (arith, above, some); is = there.now_is; is_left = there.is_left }
 
 pub returns-in-Err-clause-walked : goal.returns-in-Err-clause-walked
@@ -234,7 +234,7 @@ walk-smaller g c =
     let B : ℕ × Context → Type 0 = λ z. IsBackAtLeft z.0 z.1 end in
     let number = c.len-base.ensures.number in
     let there = subst B (λ i. (number i, at.1 i)) (c.back.ensures.left c.if-not-back.false) in
-    less_turned problem bounds w.grown.0 from end turned (length root) (grown_some c.requires.grown.1) w.grown.1 there (c.in-Ok.ensures there.before there.left there.now_is)
+    less_turned problem bounds from end turned (length root) (grown_some c.requires.grown) w.grown there (c.in-Ok.ensures there.before there.left there.now_is)
 
 pub walk-preserved : goal.walk-preserved
 walk-preserved g c =
@@ -255,7 +255,7 @@ walk-preserved g c =
     let number = c.len-base.ensures.number in
     let there = subst B (λ i. (number i, at.1 i)) (c.back.ensures.left c.if-not-back.false) in
     record {
-      walking = walk_turns problem bounds root first c.args.tally.now from end turned h now c.walk.tally c.visit.new.tally v.0 v.1 (grown_some c.requires.grown.1) w v.2 at.2 at.0 there (c.in-Ok.ensures there.before there.left there.now_is);
+      walking = walk_turns problem bounds root first c.args.tally.now from end turned h now c.walk.tally c.visit.new.tally v.0 v.1 (grown_some c.requires.grown) w v.2 at.2 at.0 there (c.in-Ok.ensures there.before there.left there.now_is);
       pushes = adds_then c.walk.invariant.pushes c.visit.ensures.pushes;
       condition = same_gifts c.walk.invariant.condition c.visit.ensures.condition;
     }

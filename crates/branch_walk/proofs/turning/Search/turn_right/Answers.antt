@@ -14,7 +14,7 @@ grow-requires-clause-literal g c =
     let more = longer s.before s.left in
     let some = s.some in
     let off = taken_off c.shrink.result old new c.shrink.ensures.taken c.shrink.ensures.alone.0 (omega (arith, many, more, some)) in
-    (can_turn a.self.now.problem.now a.self.now.bounds.now c.requires.grown.0 old new c.in_ok-entry.entry c.requires.grown.1 s off c.in_ok-entry.ensures).literal
+    (can_turn a.self.now.problem.now a.self.now.bounds.now old new c.in_ok-entry.entry c.requires.grown s off c.in_ok-entry.ensures).literal
 
 pub grow-requires-clause-apart : goal.grow-requires-clause-apart
 grow-requires-clause-apart g c =
@@ -26,4 +26,4 @@ grow-requires-clause-apart g c =
     let more = longer s.before s.left in
     let some = s.some in
     let off = taken_off c.shrink.result old new c.shrink.ensures.taken c.shrink.ensures.alone.0 (omega (arith, many, more, some)) in
-    (can_turn a.self.now.problem.now a.self.now.bounds.now c.requires.grown.0 old new c.in_ok-entry.entry c.requires.grown.1 s off c.in_ok-entry.ensures).apart
+    (can_turn a.self.now.problem.now a.self.now.bounds.now old new c.in_ok-entry.entry c.requires.grown s off c.in_ok-entry.ensures).apart

@@ -1,6 +1,5 @@
-use Rattle.std.proofs.Common.{◌≡◌, ◌++◌, length, take, drop, None, arith, ◌<◌}
+use Rattle.std.proofs.Common.{length, drop, arith, ◌<◌}
 use Rattle.std.proofs.lemmas.List.{take_at}
-use Rattle.me_context.specs.Hiding.{marked}
 use Rattle.me_context.proofs.Added.{kept_of}
 use Rattle.me_context.proofs.Popped.{may_mark, popped}
 use Rattle.me_context.proofs.context.Context.pop.Goals as goal

@@ -1,10 +1,6 @@
-use Rattle.std.proofs.Common.{arith}
 use Rattle.me_unify.proofs.MoreNodes.{arena_push, arena_same, grown_push, last_push}
 use Rattle.me_unify.proofs.Indexed.{put_back}
 use Rattle.me_unify.proofs.arena.Arena.push.Goals as goal
-
-pub push-requires-clause-short : goal.push-requires-clause-short
-push-requires-clause-short c = omega (arith, c.requires.arena.sized, c.requires.arena.forest.small)
 
 pub returns-in-Ok-clause-arena : goal.returns-in-Ok-clause-arena
 returns-in-Ok-clause-arena c =

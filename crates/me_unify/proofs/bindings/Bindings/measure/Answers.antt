@@ -3,7 +3,7 @@ use Rattle.me_terms.specs.Terms.{AtomValue, arguments_of}
 use Rattle.me_terms.specs.Substitutions.{apply_atom}
 use Rattle.me_unify.specs.Equations.{Equation, IsMostGeneral}
 use Rattle.me_unify.specs.Measured.{IsAtomMeasure}
-use Rattle.me_unify.specs.Marks.{IsBack, equations_of}
+use Rattle.me_unify.specs.Marks.{IsBack, step_equations}
 use Rattle.me_unify.proofs.Bound.{bound_back}
 use Rattle.me_unify.proofs.Read.{measured_by}
 use Rattle.me_unify.proofs.Cut.{mark_before, back_by}
@@ -34,7 +34,7 @@ returns-in_err-all-clause-kept c =
     let back : IsBack c.self.inside.arena.nodes c.self.inside.arena.links c.cut.new.self.nodes c.cut.new.self.links =
     back_by c.self.inside.arena.nodes c.measure_terms-result.new.self.nodes c.cut.new.self.nodes c.self.inside.arena.links c.measure_terms-result.new.self.links c.cut.new.self.links c.len-nodes.result c.len-links.result c.measure_terms-result.ensures.grown
     (same_links c.self.inside.arena.links c.measure_terms-result.new.self.links c.measure_terms-result.ensures.froms c.measure_terms-result.ensures.tos) (search (rules, c.len-nodes.ensures)) (search (rules, c.len-links.ensures)) c.cut.ensures.nodes c.cut.ensures.links in
-    let view : equations_of c.cut.new.self.nodes c.self.inside.steps.items ≡ equations_of c.self.inside.arena.nodes c.self.inside.steps.items = ap (λ z. equations_of z c.self.inside.steps.items) back.nodes_are in
+    let view : step_equations c.cut.new.self.nodes c.self.inside.steps.items ≡ step_equations c.self.inside.arena.nodes c.self.inside.steps.items = ap (λ z. step_equations z c.self.inside.steps.items) back.nodes_are in
     view ∙ c.self.view_is
 
 pub returns-clause-kept : goal.returns-clause-kept
@@ -42,7 +42,7 @@ returns-clause-kept c =
     let back : IsBack c.self.inside.arena.nodes c.self.inside.arena.links c.cut.new.self.nodes c.cut.new.self.links =
     back_by c.self.inside.arena.nodes c.measure_terms-result.new.self.nodes c.cut.new.self.nodes c.self.inside.arena.links c.measure_terms-result.new.self.links c.cut.new.self.links c.len-nodes.result c.len-links.result c.measure_terms-result.ensures.grown
     (same_links c.self.inside.arena.links c.measure_terms-result.new.self.links c.measure_terms-result.ensures.froms c.measure_terms-result.ensures.tos) (search (rules, c.len-nodes.ensures)) (search (rules, c.len-links.ensures)) c.cut.ensures.nodes c.cut.ensures.links in
-    let view : equations_of c.cut.new.self.nodes c.self.inside.steps.items ≡ equations_of c.self.inside.arena.nodes c.self.inside.steps.items = ap (λ z. equations_of z c.self.inside.steps.items) back.nodes_are in
+    let view : step_equations c.cut.new.self.nodes c.self.inside.steps.items ≡ step_equations c.self.inside.arena.nodes c.self.inside.steps.items = ap (λ z. step_equations z c.self.inside.steps.items) back.nodes_are in
     view ∙ c.self.view_is
 
 pub returns-clause-measure : goal.returns-clause-measure

@@ -1,6 +1,6 @@
 use Rattle.std.proofs.Common.{◌≡◌, ◌-◌, ◌≤◌, length}
 use Rattle.me_terms.specs.Substitutions.{Family}
-use Rattle.me_unify.specs.Linked.{IsForest, AreDirected, AreClosed, IsLonger, Respects, Colouring, Fits}
+use Rattle.me_unify.specs.Linked.{IsForest, AreDirected, AreClosed, IsLonger, Respects, Colouring, IsColoured}
 use Rattle.me_unify.proofs.links.Links.close.Given as goal
 
 abbrev pub invariant-links : goal.invariant-links
@@ -11,7 +11,7 @@ invariant-links l = record {
   directed : AreDirected l.nodes l.self;
   more : IsLonger l.initial.self l.self;
   closed : AreClosed l.nodes l.self l.k;
-  same : (t : Family) (h : Colouring) → Fits l.nodes t h → Respects l.initial.self h → Respects l.self h;
+  same : (t : Family) (h : Colouring) → IsColoured l.nodes t h → Respects l.initial.self h → Respects l.self h;
 }
 
 abbrev pub decreases-links : goal.decreases-links

@@ -9,4 +9,4 @@ invariant-walk l = record {
 }
 
 abbrev pub decreases-walk : goal.decreases-walk
-decreases-walk l = 0xffff_ffff - get_or l.self.place.items l.at 0
+decreases-walk l = 0xffff_ffff_ffff_ffff - get_or l.self.place.items l.at 0

@@ -1,7 +1,7 @@
 use Rattle.std.proofs.Common.{◌≡◌, arith, false, Bool, ◌↔◌}
 use Rattle.std.specs.Prelude.{IsTrue}
 use Rattle.me_terms.specs.Substitutions.{Family}
-use Rattle.me_unify.specs.Linked.{Colouring, Fits, Respects}
+use Rattle.me_unify.specs.Linked.{Colouring, IsColoured, Respects}
 use Rattle.me_unify.proofs.Forest.{respects_less, if_ok_map, if_ok_all}
 use Rattle.me_unify.proofs.Steps.{closed_kept}
 use Rattle.me_unify.proofs.links.Links.try_equate.Goals as goal
@@ -15,7 +15,7 @@ returns-then-not-branch-clause-no c z t h fits old same = c.in_ok-close.ensures.
 
 pub returns-clause-yes : goal.returns-clause-yes
 returns-clause-yes c =
-    let Q : Bool → Type 0 = λ a. IsTrue a → (t : Family) (h : Colouring) → Fits c.args.nodes.now t h → (Respects c.args.self.now h × (h c.args.x ≡ h c.args.y)) ↔ Respects c.close.new.self h in
+    let Q : Bool → Type 0 = λ a. IsTrue a → (t : Family) (h : Colouring) → IsColoured c.args.nodes.now t h → (Respects c.args.self.now h × (h c.args.x ≡ h c.args.y)) ↔ Respects c.close.new.self h in
     if_ok_all c.is_ordered.result Q (λ a z t h fits. (
       λ p. c.close.ensures.same t h fits (c.join.ensures.same h p.0 p.1),
       λ new. let mid = respects_less c.join.new.self c.close.new.self h c.close.ensures.more new in
@@ -24,6 +24,6 @@ returns-clause-yes c =
 
 pub returns-clause-no : goal.returns-clause-no
 returns-clause-no c =
-    let P : Bool → Type 0 = λ a. a ≡ false → (t : Family) (h : Colouring) → Fits c.args.nodes.now t h → ¬ Respects c.close.new.self h in
-    let Q : Bool → Type 0 = λ a. a ≡ false → (t : Family) (h : Colouring) → Fits c.args.nodes.now t h → Respects c.args.self.now h → ¬ (h c.args.x ≡ h c.args.y) in
+    let P : Bool → Type 0 = λ a. a ≡ false → (t : Family) (h : Colouring) → IsColoured c.args.nodes.now t h → ¬ Respects c.close.new.self h in
+    let Q : Bool → Type 0 = λ a. a ≡ false → (t : Family) (h : Colouring) → IsColoured c.args.nodes.now t h → Respects c.args.self.now h → ¬ (h c.args.x ≡ h c.args.y) in
     if_ok_map c.is_ordered.result P Q (λ a p z t h fits old same. p z t h fits (c.close.ensures.same t h fits (c.join.ensures.same h old same))) c.is_ordered.ensures.no

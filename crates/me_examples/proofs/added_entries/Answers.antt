@@ -1,5 +1,0 @@
-use Rattle.me_examples.proofs.AddedEntries.{added_entries}
-use Rattle.me_examples.proofs.added_entries.Goals as goal
-
-pub returns : goal.returns
-returns c = added_entries

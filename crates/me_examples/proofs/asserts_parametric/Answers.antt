@@ -1,5 +1,0 @@
-use Rattle.me_examples.proofs.ParametricAssert.{asserts_parametric}
-use Rattle.me_examples.proofs.asserts_parametric.Goals as goal
-
-pub returns : goal.returns
-returns c = asserts_parametric

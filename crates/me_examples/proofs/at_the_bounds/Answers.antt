@@ -1,5 +1,0 @@
-use Rattle.me_examples.proofs.AtTheBounds.{at_the_bounds}
-use Rattle.me_examples.proofs.at_the_bounds.Goals as goal
-
-pub returns : goal.returns
-returns c = at_the_bounds

@@ -1,5 +1,0 @@
-use Rattle.me_examples.proofs.BoundByFirstPlace.{bound_by_first_place}
-use Rattle.me_examples.proofs.bound_by_first_place.Goals as goal
-
-pub returns : goal.returns
-returns c = bound_by_first_place

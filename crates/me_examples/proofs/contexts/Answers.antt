@@ -1,5 +1,0 @@
-use Rattle.me_examples.proofs.ContextCases.{contexts}
-use Rattle.me_examples.proofs.contexts.Goals as goal
-
-pub returns : goal.returns
-returns c = contexts

@@ -1,5 +1,0 @@
-use Rattle.me_examples.proofs.EitherStart.{either_start}
-use Rattle.me_examples.proofs.either_start.Goals as goal
-
-pub returns : goal.returns
-returns c = either_start

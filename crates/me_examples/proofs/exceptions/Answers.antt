@@ -1,5 +1,0 @@
-use Rattle.me_examples.proofs.ExceptionCases.{exceptions}
-use Rattle.me_examples.proofs.exceptions.Goals as goal
-
-pub returns : goal.returns
-returns c = exceptions

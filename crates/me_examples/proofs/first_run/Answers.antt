@@ -1,5 +1,0 @@
-use Rattle.me_examples.proofs.FirstList.{first_run}
-use Rattle.me_examples.proofs.first_run.Goals as goal
-
-pub returns : goal.returns
-returns c = first_run

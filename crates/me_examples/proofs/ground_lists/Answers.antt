@@ -1,5 +1,0 @@
-use Rattle.me_examples.proofs.GroundLists.{ground_lists}
-use Rattle.me_examples.proofs.ground_lists.Goals as goal
-
-pub returns : goal.returns
-returns c = ground_lists

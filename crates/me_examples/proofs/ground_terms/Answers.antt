@@ -1,5 +1,0 @@
-use Rattle.me_examples.proofs.GroundTerms.{ground_terms}
-use Rattle.me_examples.proofs.ground_terms.Goals as goal
-
-pub returns : goal.returns
-returns c = ground_terms

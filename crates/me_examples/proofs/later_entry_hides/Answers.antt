@@ -1,5 +1,0 @@
-use Rattle.me_examples.proofs.HiddenEntry.{later_entry_hides}
-use Rattle.me_examples.proofs.later_entry_hides.Goals as goal
-
-pub returns : goal.returns
-returns c = later_entry_hides

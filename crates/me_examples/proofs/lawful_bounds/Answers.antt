@@ -1,5 +1,0 @@
-use Rattle.me_examples.proofs.LawfulBounds.{lawful_bounds}
-use Rattle.me_examples.proofs.lawful_bounds.Goals as goal
-
-pub returns : goal.returns
-returns c = lawful_bounds

@@ -1,5 +1,0 @@
-use Rattle.me_examples.proofs.MergedVariables.{merged_variables_close}
-use Rattle.me_examples.proofs.merged_variables_close.Goals as goal
-
-pub returns : goal.returns
-returns c = merged_variables_close

@@ -1,5 +1,0 @@
-use Rattle.me_examples.proofs.ModelCases.{models}
-use Rattle.me_examples.proofs.models.Goals as goal
-
-pub returns : goal.returns
-returns c = models

@@ -1,5 +1,0 @@
-use Rattle.me_examples.proofs.PartialRemainder.{partial_remainder}
-use Rattle.me_examples.proofs.partial_remainder.Goals as goal
-
-pub returns : goal.returns
-returns c = partial_remainder

@@ -1,5 +1,0 @@
-use Rattle.me_examples.proofs.QueueOrder.{queue_order}
-use Rattle.me_examples.proofs.queue_order.Goals as goal
-
-pub returns : goal.returns
-returns c = queue_order

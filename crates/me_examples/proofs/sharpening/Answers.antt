@@ -1,5 +1,0 @@
-use Rattle.me_examples.proofs.SharpeningCases.{sharpening}
-use Rattle.me_examples.proofs.sharpening.Goals as goal
-
-pub returns : goal.returns
-returns c = sharpening

@@ -1,5 +1,0 @@
-use Rattle.me_examples.proofs.SubsumptionCases.{subsumption}
-use Rattle.me_examples.proofs.subsumption.Goals as goal
-
-pub returns : goal.returns
-returns c = subsumption

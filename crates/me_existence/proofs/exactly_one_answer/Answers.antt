@@ -1,5 +1,0 @@
-use Rattle.me_existence.proofs.Outcomes.{only_answer}
-use Rattle.me_existence.proofs.exactly_one_answer.Goals as goal
-
-pub returns : goal.returns
-returns c = only_answer

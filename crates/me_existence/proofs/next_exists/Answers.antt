@@ -1,5 +1,0 @@
-use Rattle.me_existence.proofs.NextStep.{next_step}
-use Rattle.me_existence.proofs.next_exists.Goals as goal
-
-pub returns : goal.returns
-returns c = next_step

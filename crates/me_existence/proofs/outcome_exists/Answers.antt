@@ -1,5 +1,0 @@
-use Rattle.me_existence.proofs.Outcomes.{outcome}
-use Rattle.me_existence.proofs.outcome_exists.Goals as goal
-
-pub returns : goal.returns
-returns c = outcome

@@ -1,0 +1,5 @@
+use Rattle.me_laws_examples.proofs.ContextCases.{contexts}
+use Rattle.me_laws_examples.proofs.contexts.Goals as goal
+
+pub returns : goal.returns
+returns c = contexts

@@ -1,0 +1,16 @@
+pub mod Without
+pub mod Solvable
+pub mod SolvesDecided
+pub mod Best
+pub mod Codes
+pub mod Opposed
+pub mod Clashes
+pub mod Closes
+pub mod Asserts
+pub mod Productive
+pub mod Splits
+pub mod NextStep
+pub mod Asked
+pub mod Queue
+pub mod Outcomes
+pub mod Deepening

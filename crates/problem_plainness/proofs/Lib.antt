@@ -1,5 +1,0 @@
-pub mod Walks
-pub mod FirstConstant
-pub mod FirstOccurrence
-pub mod OwnNumbers
-pub mod Passes

@@ -1,8 +1,0 @@
-use Rattle.std.proofs.Common.{◌≡◌, drop}
-use Rattle.problem_validity.specs.ValidityTests.{numbered_on}
-use Rattle.problem_plainness.specs.PlainTests.{literals_predicates}
-use Rattle.problem_plainness.proofs.numbering.next_in_atoms.Given as goal
-
--- What is left decides.
-abbrev pub invariant-loop-literal : goal.invariant-loop-literal
-invariant-loop-literal l = numbered_on l.next (literals_predicates l.literals) ≡ numbered_on l.number (literals_predicates (drop l.literal-index l.literals))

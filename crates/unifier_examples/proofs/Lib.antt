@@ -1,4 +1,0 @@
-pub mod Constants
-pub mod OpenAtoms
-pub mod Positive
-pub mod TwoEntries

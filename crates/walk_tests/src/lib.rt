@@ -1,0 +1,13 @@
+//! Examples that cross crates, as tests.
+#![tactic(auto)]
+
+#[cfg(test)]
+mod core_tests;
+#[cfg(test)]
+mod keeper;
+#[cfg(test)]
+mod notes;
+#[cfg(test)]
+mod problems;
+#[cfg(test)]
+mod walk_tests;

@@ -1,0 +1,2 @@
+% A start is negative or positive.
+cnf(c1, axiom, p).
