@@ -1,0 +1,14 @@
+pub mod Candidates
+pub mod Exceptions
+pub mod FirstUnfit
+pub mod Lookup
+pub mod NewEntries
+pub mod Pairs
+pub mod Phases
+pub mod Pivots
+pub mod Prefixes
+pub mod Refusals
+pub mod Replacement
+pub mod SmallContext
+pub mod SmallTuples
+pub mod Tuples
