@@ -26,6 +26,8 @@ from changes import CHANGES  # noqa: E402
 # The examples are checked over all these, which are read as source, in one run that checks again only what a change reaches.
 BELOW = ["me_terms", "me_laws", "me_laws_refutation", "me_laws_counting", "me_laws_existence"]
 OF_KIT = ["core", "std", "indexmap", "smallvec"]
+# (RT may name another command, as one that waits for a free processor and then runs rt)
+RT = os.environ.get("RT", "rt").split()
 
 
 def each_change():
@@ -38,8 +40,8 @@ def each_change():
 
 def check(copy, kept):
     """Whether all is proved (None: there is no verdict), and what the check wrote."""
-    kit = os.path.dirname(subprocess.run(["rt", "doc"], capture_output=True, text=True, check=True).stdout.strip())
-    words = [f"{kit}/bin/rattle", "check", "--crate-name", "me_laws_examples", "src/lib.rt", "-L", f"dependency={kit}/rlibs"]
+    kit = os.path.dirname(subprocess.run([*RT, "doc"], capture_output=True, text=True, check=True).stdout.strip())
+    words = [*RT[:-1], f"{kit}/bin/rattle", "check", "--crate-name", "me_laws_examples", "src/lib.rt", "-L", f"dependency={kit}/rlibs"]
     for name in OF_KIT:
         words += ["--extern", f"{name}={kit}/rlibs/{name}.rlib"]
     for name in BELOW:

@@ -1,16 +1,15 @@
 //! The context that one search extends and takes back.
 //!
-//! A contract sees a `Context` as its list of entries. What is visible is told in constant time: it is kept
-//! beside the entries, and `add` and `pop` change it exactly where it changes.
-ghost use Rattle.std.specs.Prelude.{◌≡◌, ◌<◌, ◌≤◌, [], ◌∷◌, ◌++◌, length, vec_len, vec_capacity, ◌+◌, ◌↔◌, IsNone, OnOk, OnErr, IfOk, IfErr, IfSome, IsTrue, map};
+//! A contract sees a `Context` as its list of entries. What is hidden is kept beside them, so that what is
+//! visible is told in constant time, and `add` and `pop` change it exactly where it changes.
+ghost use Rattle.std.specs.Prelude.{◌≡◌, ◌<◌, ◌≤◌, [], ◌∷◌, ◌++◌, length, ◌+◌, ◌↔◌, IsNone, OnOk, OnErr, IfOk, IfErr, IfSome, IsTrue};
 ghost use Rattle.me_terms.specs.Context.{IsLiteralEntry, add};
 ghost use Rattle.me_terms.specs.Contradictory.{Contradicts};
 ghost use Rattle.me_terms.specs.Grown as grown;
 ghost use Rattle.me_terms.specs.declared.bounds.TheConstants.{MAX_ENTRIES};
-ghost use Rattle.me_context.specs.Views.{items_of};
 
-use crate::hiding::{is_shown, mark, newly_hidden};
-use me_terms::{Again, Entry, Kind, Pattern, Places, Reason, Refused, Start, Trunk, View};
+use entry_hiding::Hiding;
+use me_terms::{Again, Entry, Kind, Pattern, Reason, Refused, Start, Trunk, View};
 use std::alloc::{AllocError, Global};
 use std::marker::Model;
 
@@ -18,8 +17,7 @@ use std::marker::Model;
 #[derive(Drop)]
 pub struct Context {
     entries: Vec<Entry>,
-    hidden_by: Vec<Option<u32>>,
-    hides: Vec<Places>,
+    hiding: Hiding,
 }
 
 impl Model for Context {
@@ -29,7 +27,7 @@ impl Model for Context {
     ghost use Rattle.me_terms.specs.Values.{EntryValue};
     ghost use Rattle.me_terms.specs.Context.{IsContext};
     ghost use Rattle.me_terms.specs.declared.bounds.TheConstants.{MAX_ENTRIES};
-    ghost use Rattle.me_context.specs.Hiding.{AreHidden};
+    ghost use Rattle.entry_hiding.specs.Hiding.{IsHidingOf};
 
     ghost Value = { List EntryValue };
 
@@ -37,28 +35,7 @@ impl Model for Context {
 
     ghost view = { λ c. c.entries.items };
 
-    ghost use Rattle.me_context.specs.Views.{items_of};
-
-    ghost invariant = { λ c. IsContext c.entries.items × (length c.entries.items ≤ MAX_ENTRIES) × AreHidden c.entries.items c.hidden_by.items (items_of c.hides.items) };
-}
-
-/// Room for one more item in each list, or nothing is changed where memory is out.
-fn make_room(
-    entries: &mut Vec<Entry>,
-    hidden_by: &mut Vec<Option<u32>>,
-    hides: &mut Vec<Places>,
-) -> Result<(), AllocError>
-    ensures entries { entries.new.items ≡ entries.old.items }
-    ensures hidden_by { hidden_by.new.items ≡ hidden_by.old.items }
-    ensures hides { hides.new.items ≡ hides.old.items }
-    ensures room { OnOk result ((vec_len entries.new < vec_capacity entries.new)
-        × (vec_len hidden_by.new < vec_capacity hidden_by.new)
-        × (vec_len hides.new < vec_capacity hides.new)) }
-{
-    entries.reserve(1)?;
-    hidden_by.reserve(1)?;
-    hides.reserve(1)?;
-    Ok(())
+    ghost invariant = { λ c. IsContext c.entries.items × (length c.entries.items ≤ MAX_ENTRIES) × IsHidingOf c.entries.items c.hiding };
 }
 
 /// Takes the last item off.
@@ -86,8 +63,7 @@ impl Context {
         };
         Ok(Context {
             entries: vec![in alloc; entry]?,
-            hidden_by: vec![in alloc; None]?,
-            hides: vec![in alloc; Places::new(alloc)]?,
+            hiding: Hiding::start(alloc)?,
         })
     }
 
@@ -103,17 +79,12 @@ impl Context {
         ensures err { OnErr result (self.new ≡ self.old) }
         ensures back { IfErr result (λ refused. refused.entry ≡ e) }
     {
-        let alloc = *self.entries.allocator();
-        let Ok(places) = newly_hidden(alloc, &self.entries, &self.hidden_by, &e) else {
-            return Err(Refused { entry: e });
-        };
-        if make_room(&mut self.entries, &mut self.hidden_by, &mut self.hides).is_err() {
+        if self.entries.reserve(1).is_err() {
             return Err(Refused { entry: e });
         }
-        let position = self.entries.len() as u32;
-        mark(&mut self.hidden_by, places.as_slice(), Some(position));
-        self.hidden_by.push_reserved(None);
-        self.hides.push_reserved(places);
+        let Ok(()) = self.hiding.add(&self.entries, &e) else {
+            return Err(Refused { entry: e });
+        };
         self.entries.push_reserved(e);
         Ok(())
     }
@@ -128,9 +99,7 @@ impl Context {
             return None;
         }
         let entry = take_last(&mut self.entries);
-        let _by = take_last(&mut self.hidden_by);
-        let places = take_last(&mut self.hides);
-        mark(&mut self.hidden_by, places.as_slice(), None);
+        self.hiding.pop();
         Some(entry)
     }
 }
@@ -147,7 +116,7 @@ impl View for Context {
     }
 
     fn visible(&self, k: u32) -> bool {
-        is_shown(&self.hidden_by, k)
+        self.hiding.shows(k)
     }
 }
 
@@ -158,17 +127,6 @@ fn copy_entries(alloc: Global, entries: &[Entry]) -> Result<Vec<Entry>, AllocErr
     let mut copy = Vec::new(alloc);
     for entry in entries {
         copy.push(entry.again(alloc)?)?;
-    }
-    Ok(copy)
-}
-
-/// Copies of the lists of positions.
-fn copy_lists(alloc: Global, lists: &[Places]) -> Result<Vec<Places>, AllocError>
-    ensures { IfOk result (λ copy. items_of copy.items ≡ items_of lists.now) }
-{
-    let mut copy = Vec::new(alloc);
-    for list in lists {
-        copy.push(list.again(alloc)?)?;
     }
     Ok(copy)
 }
@@ -185,8 +143,7 @@ impl Trunk for Context {
     fn again(&self, alloc: Global) -> Result<Self, AllocError> {
         Ok(Context {
             entries: copy_entries(alloc, &self.entries)?,
-            hidden_by: self.hidden_by.as_slice().to_vec(alloc)?,
-            hides: copy_lists(alloc, &self.hides)?,
+            hiding: self.hiding.again(alloc)?,
         })
     }
 }

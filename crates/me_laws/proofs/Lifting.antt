@@ -23,11 +23,12 @@ met t Any s a m = tt
 met t (Of b) s a m = (t, m)
 
 -- an exception at an atom is one at its instances
-exception_below : (context : Context) (e : EntryValue) (a b : AtomValue) → Generalizes (Of a) (Of b) → HasException context e a → HasException context e b
+pub exception_below : (context : Context) (e : EntryValue) (a b : AtomValue) → Generalizes (Of a) (Of b) → HasException context e a → HasException context e b
 exception_below context e a b g ex =
     (ex.0, ex.1, ex.2, generalizes_transitive ex.1.atom (Of a) (Of b) ex.3 g, ex.4)
 
-lower : (context : Context) (e : EntryValue) (a b : AtomValue) → Generalizes (Of a) (Of b) → (e.kind ≡ Universal) ⊎ (¬ HasException context e b) → (e.kind ≡ Universal) ⊎ (¬ HasException context e a)
+-- what is undisputed at an instance is undisputed
+pub lower : (context : Context) (e : EntryValue) (a b : AtomValue) → Generalizes (Of a) (Of b) → (e.kind ≡ Universal) ⊎ (¬ HasException context e b) → (e.kind ≡ Universal) ⊎ (¬ HasException context e a)
 lower context e a b g (inl u) = inl u
 lower context e a b g (inr free) = inr (λ ex. free (exception_below context e a b g ex))
 

@@ -48,13 +48,13 @@ place_by : (i : ℕ) (context : Context) (k : Option ℕ) (ks : List (Option ℕ
 place_by i context k ks u place others true later h = let same : i ≡ place = cc h in omega (arith, same)
 place_by i context k ks u place others false later h = let below = later h in omega (arith, below)
 
-place_below : (i : ℕ) (context : Context) (ks : List (Option ℕ)) (u : Family) (place : ℕ) (others : List ℕ) → remainder_from i context ks u ≡ place ∷ others → place < i + length ks
+pub place_below : (i : ℕ) (context : Context) (ks : List (Option ℕ)) (u : Family) (place : ℕ) (others : List ℕ) → remainder_from i context ks u ≡ place ∷ others → place < i + length ks
 place_below i context [] u place others h = cc h
 place_below i context (k ∷ ks) u place others h =
     place_by i context k ks u place others (remains_at (entry_at context k) (u (i + 1))) (place_below (i + 1) context ks u place others) h
 
 -- ---- an atom is as deep and heavy as its canonical form
-variant : (a : AtomValue) → Variants a (canonical a)
+pub variant : (a : AtomValue) → Variants a (canonical a)
 variant a =
     let below = canonical_below a in
     let above = canonical_above a in

@@ -21,20 +21,10 @@ use Rattle.me_terms.specs.declared.bounds.Bound.{Bound}
 use Rattle.me_terms.specs.declared.bounds.Bound.TheVariants as bound
 use Rattle.me_terms.specs.declared.bounds.Bounds.{Bounds}
 use Rattle.me_terms.specs.declared.atom.Literal.{Literal}
-use Rattle.me_laws.proofs.NoContradiction.{canonical_below, canonical_above}
-use Rattle.me_laws.proofs.Renaming.{Variants, depth_same, weight_same}
+use Rattle.me_laws.proofs.Renaming.{depth_same, weight_same}
+use Rattle.me_laws_existence.proofs.NextStep.{place_below, variant}
 use Rattle.me_laws_increments.proofs.Places.{there}
 use Rattle.me_laws_increments.specs.FirstUnfit.{HasFirstPlace, FitsAsCanonical, RemainingIsUnfit, LeastIsFirstRemaining}
-
--- ---- a place of the remainder is a place of the clause
-place_by : (i : ℕ) (context : Context) (k : Option ℕ) (ks : List (Option ℕ)) (u : Family) (place : ℕ) (others : List ℕ) (test : Bool) → (remainder_from (i + 1) context ks u ≡ place ∷ others → place < (i + 1) + length ks) → cond test (i ∷ remainder_from (i + 1) context ks u) (remainder_from (i + 1) context ks u) ≡ place ∷ others → place < i + suc (length ks)
-place_by i context k ks u place others true later h = let same : i ≡ place = cc h in omega (arith, same)
-place_by i context k ks u place others false later h = let below = later h in omega (arith, below)
-
-place_below : (i : ℕ) (context : Context) (ks : List (Option ℕ)) (u : Family) (place : ℕ) (others : List ℕ) → remainder_from i context ks u ≡ place ∷ others → place < i + length ks
-place_below i context [] u place others h = cc h
-place_below i context (k ∷ ks) u place others h =
-    place_by i context k ks u place others (remains_at (entry_at context k) (u (i + 1))) (place_below (i + 1) context ks u place others) h
 
 module _ (problem : ProblemValue) (context : Context) (c : ℕ) (tuple : List ℕ) (clause : ClauseValue) (family : Family) (no_close : ¬ HasClose problem context) (h : IsProductiveUnifier problem context c tuple clause family) where
   first_by : (rest : List ℕ) → remainder context (positions_of None tuple) family ≡ rest → HasFirstPlace context tuple clause family
@@ -48,13 +38,6 @@ module _ (problem : ProblemValue) (context : Context) (c : ℕ) (tuple : List �
 
   pub remains : HasFirstPlace context tuple clause family
   remains = first_by (remainder context (positions_of None tuple) family) refl
-
--- ---- an atom is as deep and heavy as its canonical form
-variant : (a : AtomValue) → Variants a (canonical a)
-variant a =
-    let below = canonical_below a in
-    let above = canonical_above a in
-    record { there = below.0; back = above.0; to = below.1; from = above.1 }
 
 fits_too : (bounds : Bounds) (l : Literal) → Fits bounds l → Fits bounds (canonical_literal l)
 fits_too bounds l h =

@@ -15,7 +15,7 @@ use Rattle.me_terms.specs.declared.entry.Kind.TheVariants.{Universal, Parametric
 use Rattle.me_terms.specs.declared.atom.Pattern.{Pattern}
 use Rattle.me_terms.specs.declared.atom.Pattern.TheVariants.{Any, Of}
 use Rattle.me_laws.proofs.Generality.{generalizes_transitive}
-use Rattle.me_laws.proofs.Lifting.{atom_along, met}
+use Rattle.me_laws.proofs.Lifting.{atom_along, met, exception_below, lower}
 use Rattle.me_laws.proofs.NoContradiction.{canonical_below}
 use Rattle.me_laws_increments.specs.Prefixes.{WholeSolvesParts, WholeExtendsParts, LiteralsComeDown, MeasuresGrow, RemainingStays, ProductionComesDown, ExceptedIsUnproductive, FixedComesDown, FixedIsNotAsserted, UnfitStaysUnfit}
 use Rattle.me_laws_increments.proofs.Refusals.{not_refused}
@@ -101,14 +101,6 @@ remaining_stays u v None space h e = e
 remaining_stays u v (Some f) space h e = remaining_on f.kind f.atom (u space) (v space) h.0 (h.1 space) e
 
 -- ---- production
-exception_below : (context : Context) (e : EntryValue) (a b : AtomValue) → Generalizes (Of a) (Of b) → HasException context e a → HasException context e b
-exception_below context e a b g ex =
-    (ex.0, ex.1, ex.2, generalizes_transitive ex.1.atom (Of a) (Of b) ex.3 g, ex.4)
-
-lower : (context : Context) (e : EntryValue) (a b : AtomValue) → Generalizes (Of a) (Of b) → (e.kind ≡ Universal) ⊎ (¬ HasException context e b) → (e.kind ≡ Universal) ⊎ (¬ HasException context e a)
-lower context e a b g (inl u) = inl u
-lower context e a b g (inr free) = inr (λ ex. free (exception_below context e a b g ex))
-
 pub production_comes_down : ProductionComesDown
 production_comes_down context literals part whole u v in_whole h solved productive =
     λ i k l e at.

@@ -1,0 +1,2 @@
+pub mod TwoTildesRefused
+pub mod Judged

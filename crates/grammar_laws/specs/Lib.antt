@@ -1,0 +1,2 @@
+pub mod TwoTildes
+pub mod Verdicts

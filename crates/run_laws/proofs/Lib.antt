@@ -1,0 +1,6 @@
+pub mod ClosedRun
+pub mod Members
+pub mod PortionInRun
+pub mod Regions
+pub mod SmallPortion
+pub mod Spared

@@ -1,0 +1,4 @@
+pub mod ClosedRun
+pub mod PortionInRun
+pub mod SmallPortion
+pub mod SparedLeaves

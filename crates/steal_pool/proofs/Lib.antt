@@ -1,0 +1,8 @@
+pub mod Lists
+pub mod Pieces
+pub mod Wholeness
+pub mod Fits
+pub mod Told
+pub mod Booking
+pub mod Gathering
+pub mod Calls

@@ -1,0 +1,4 @@
+pub mod Crew
+pub mod Explored
+pub mod Ledger
+pub mod Tasks
