@@ -1,5 +1,5 @@
 -- The closed run of the example is orderly, and its records are whole.
-use Rattle.std.proofs.Common.{◌≡◌, ℕ, ◌<◌, ◌≤◌, ◌⊎◌, inl, inr, true, false, List, [], ◌∷◌, Some, refl, sym, ap, subst, ◌∙◌, arith}
+use Rattle.std.proofs.Common.{◌≡◌, ℕ, ◌<◌, ◌≤◌, inl, inr, true, false, List, [], ◌∷◌, Some, refl, sym, ap, subst, ◌∙◌, arith}
 use Rattle.me_terms.specs.Context.{Context}
 use Rattle.me_terms.specs.Outcome.{TreeOutcome}
 use Rattle.me_terms.specs.Outcome as outcome
@@ -14,22 +14,7 @@ use Rattle.branch_core.specs.StandsFor.{Account, StandsFor}
 use Rattle.branch_core.specs.Whole.{IsIn}
 use Rattle.branch_core.proofs.Orderly.{closed_runs}
 use Rattle.run_laws.specs.ClosedRun.{left_child, right_child, gift_parts, one_split, last_core, accounts, whole_log, ClosedRunExists}
-use Rattle.run_laws.proofs.Members.{Has, has}
-
-only : {A : Type 0} (x y : A) → IsIn x (y ∷ []) → x ≡ y
-only x y h = go (has x (y ∷ []) h)
-  where
-    go : Has x (y ∷ []) → x ≡ y
-    go (inl e) = e
-    go (inr none) = absurd none
-
-either : {A : Type 0} (x y z : A) → IsIn x (y ∷ z ∷ []) → (x ≡ y) ⊎ (x ≡ z)
-either x y z h = go (has x (y ∷ z ∷ []) h)
-  where
-    go : Has x (y ∷ z ∷ []) → (x ≡ y) ⊎ (x ≡ z)
-    go (inl e) = inl e
-    go (inr (inl e)) = inr e
-    go (inr (inr none)) = absurd none
+use Rattle.run_laws.proofs.Members.{has, only, either}
 
 module _ (list_bound : ℕ) (context : Context) (other : TreeOutcome) where
   abbrev search : SearchTree

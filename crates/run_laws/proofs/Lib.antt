@@ -4,3 +4,4 @@ pub mod PortionInRun
 pub mod Regions
 pub mod SmallPortion
 pub mod Spared
+pub mod WalksInRun

@@ -52,3 +52,23 @@ has_reversed x (y ∷ ys) h =
       | inl before ↦ inr (has_reversed x ys before)
       | inr last ↦ elim last as (λ _. Has x (y ∷ ys)) [ inl e ↦ inl e | inr none ↦ absurd none ]
     ]
+
+-- ---- short lists
+
+pub none_in : {A : Type 0} {x : A} → IsIn x [] → ⊥
+none_in {x = x} h = has x [] h
+
+pub only : {A : Type 0} (x y : A) → IsIn x (y ∷ []) → x ≡ y
+only x y h = go (has x (y ∷ []) h)
+  where
+    go : Has x (y ∷ []) → x ≡ y
+    go (inl e) = e
+    go (inr none) = absurd none
+
+pub either : {A : Type 0} (x y z : A) → IsIn x (y ∷ z ∷ []) → (x ≡ y) ⊎ (x ≡ z)
+either x y z h = go (has x (y ∷ z ∷ []) h)
+  where
+    go : Has x (y ∷ z ∷ []) → (x ≡ y) ⊎ (x ≡ z)
+    go (inl e) = inl e
+    go (inr (inl e)) = inr e
+    go (inr (inr none)) = absurd none

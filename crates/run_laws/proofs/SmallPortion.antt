@@ -1,7 +1,7 @@
 -- The example's record is a portion.
-use Rattle.std.proofs.Common.{◌≡◌, ◌<◌, ℕ, zero, suc, inl, true, false, List, [], ◌∷◌, refl, arith}
+use Rattle.std.proofs.Common.{◌≡◌, ◌<◌, zero, suc, inl, true, false, List, [], ◌∷◌, refl, subst, arith}
 use Rattle.std.specs.List.{All}
-use Rattle.branch_core.specs.Joined.{Joins, as_they_are, sat_takes, takes_later, takes_earlier, closed_closed, closed_bounded, bounded_closed, bounded_bounded, closed_sat, bounded_sat, cut_cut}
+use Rattle.branch_core.specs.Joined.{Joins, SatTakes, NoMemoryTakes, as_they_are, sat_takes, takes_later, takes_earlier, closed_closed, closed_bounded, bounded_closed, bounded_bounded, closed_sat, bounded_sat, cut_cut}
 use Rattle.branch_core.specs.Paths.{Turns}
 use Rattle.branch_core.specs.Pieces.{Piece, Gift, Cut}
 use Rattle.branch_core.specs.Portions.{MayBeGiven, IsJoinedThrough, MayCut}
@@ -15,23 +15,21 @@ dropped = true ∷ false ∷ []
 abbrev pieces : List Piece
 pieces = Cut dropped told_key ∷ Gift gift ∷ []
 
-gift_apart : {first second one : Piece} (turns other : Turns) (k : ℕ) → Joins first second one → first ≡ Cut turns k → second ≡ Gift other → ⊥
-gift_apart turns other k closed_closed e f = cc
-gift_apart turns other k closed_bounded e f = cc
-gift_apart turns other k bounded_closed e f = cc
-gift_apart turns other k bounded_bounded e f = cc
-gift_apart turns other k closed_sat e f = cc
-gift_apart turns other k bounded_sat e f = cc
-gift_apart turns other k (sat_takes t) e f = cc
-gift_apart turns other k (takes_later t) e f = cc
-gift_apart turns other k (takes_earlier t) e f = cc
-gift_apart turns other k cut_cut e f = cc
+-- nothing is joined with a gift behind it
+pub no_gift_joins : {first second one : Piece} (other : Turns) → Joins first second one → second ≡ Gift other → ⊥
+no_gift_joins other closed_closed e = cc
+no_gift_joins other closed_bounded e = cc
+no_gift_joins other bounded_closed e = cc
+no_gift_joins other bounded_bounded e = cc
+no_gift_joins other closed_sat e = cc
+no_gift_joins other bounded_sat e = cc
+no_gift_joins other (sat_takes t) e = subst SatTakes e t
+no_gift_joins other (takes_later t) e = subst NoMemoryTakes e t
+no_gift_joins other (takes_earlier t) e = cc
+no_gift_joins other cut_cut e = cc
 
 none_joins : IsJoinedThrough pieces
-none_joins [] after first second e h =
-    let is_cut : first ≡ Cut dropped told_key = cc in
-    let is_gift : second ≡ Gift gift = cc in
-    gift_apart dropped gift told_key h.1 is_cut is_gift
+none_joins [] after first second e h = let is_gift : second ≡ Gift gift = cc in no_gift_joins gift h.1 is_gift
 none_joins (p ∷ []) after first second e h = absurd cc
 none_joins (p ∷ q ∷ []) after first second e h = absurd cc
 none_joins (p ∷ q ∷ r ∷ before) after first second e h = absurd cc

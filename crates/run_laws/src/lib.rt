@@ -9,6 +9,7 @@ ghost use Rattle.run_laws.specs.ClosedRun.{ClosedRunExists};
 ghost use Rattle.run_laws.specs.PortionInRun.{PortionsFitRuns};
 ghost use Rattle.run_laws.specs.SmallPortion.{SmallPortionIsOne};
 ghost use Rattle.run_laws.specs.SparedLeaves.{LegalCutsSpare, PostedKeysSpare};
+ghost use Rattle.run_laws.specs.WalksInRun.{RunHoldsWalks};
 
 /// Where a posted key may cut, the first exhausted leaf is spared.
 pub fn posted_keys_spare()
@@ -28,6 +29,11 @@ pub fn closed_run_exists()
 /// A walk's portion keeps to an orderly run in which its path's gifts and keys are.
 pub fn portions_fit_runs()
     ensures { PortionsFitRuns }
+{}
+
+/// The closed run holds the walks of two portions.
+pub fn run_holds_walks()
+    ensures { RunHoldsWalks }
 {}
 
 /// A portion with a Cut by a key that was told, and a gift beside it.

@@ -14,7 +14,7 @@ const YIELDS: u32 = 16;
 const SHORTEST: u64 = 32;
 
 /// How often the time of a sleep doubles.
-const DOUBLINGS: u32 = 5;
+const DOUBLINGS: u32 = 7;
 
 /// How long a worker has waited in vain.
 #[derive(Drop)]

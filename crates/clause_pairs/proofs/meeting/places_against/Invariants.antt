@@ -1,0 +1,5 @@
+use Rattle.clause_pairs.proofs.Against.{HasFirst}
+use Rattle.clause_pairs.proofs.meeting.places_against.Given as goal
+
+abbrev pub invariant-loop-c : goal.invariant-loop-c
+invariant-loop-c l = HasFirst l.problem l.entry l.c l.places.items

@@ -1,0 +1,4 @@
+pub mod Lists
+pub mod Meetings
+pub mod Pairs
+pub mod Values

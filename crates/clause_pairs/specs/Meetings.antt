@@ -1,0 +1,24 @@
+-- Which places of a problem's clauses an entry stands against.
+use Rattle.std.specs.Prelude.{◌≡◌, ℕ, ◌⊎◌, ◌↔◌, List, slice_get, Some}
+use Rattle.std.specs.List.{Contains}
+use Rattle.me_terms.specs.Values.{ProblemValue, ClauseValue, EntryValue}
+use Rattle.me_terms.specs.Positions.{ClauseAt}
+use Rattle.me_terms.specs.declared.atom.Literal.{Literal}
+use Rattle.me_laws_increments.specs.Pairs.{IsPair}
+use Rattle.clause_pairs.specs.declared.clause_place.ClausePlace.{ClausePlace}
+
+-- The literal l stands at the place of the problem.
+abbrev pub LiteralAt : ProblemValue → ClausePlace → Literal → Type 0
+LiteralAt problem q l = (clause : ClauseValue) × ClauseAt problem q.clause clause × (slice_get clause.literals q.place ≡ Some l)
+
+-- At the place stands a literal of the opposite sign that unifies with the entry.
+abbrev pub IsAgainst : ProblemValue → EntryValue → ClausePlace → Type 0
+IsAgainst problem e q = (l : Literal) × LiteralAt problem q l × IsPair e l
+
+-- The place is one of these literals, which are those of clause c, and the entry stands against its literal.
+abbrev pub AgainstClause : EntryValue → List Literal → ℕ → ClausePlace → Type 0
+AgainstClause e literals c q = (q.clause ≡ c) × ((l : Literal) × (slice_get literals q.place ≡ Some l) × IsPair e l)
+
+-- The second list has the places of the first, those of which P holds, and no others.
+abbrev pub AddsPlaces : List ClausePlace → List ClausePlace → (ClausePlace → Type 0) → Type 0
+AddsPlaces before after P = (q : ClausePlace) → Contains after q ↔ (Contains before q ⊎ P q)

@@ -1,0 +1,96 @@
+//! Which literals of a problem an entry stands against.
+//!
+//! Against a literal without variables it stands where it generalizes the atom, so most literals are told
+//! apart by matching alone, and atoms of different predicates never unify.
+ghost use Rattle.std.specs.Prelude.{◌≡◌, ◌⊎◌, not, ◌<◌, ◌-◌, ◌^◌, ℕ, [], length, IfOk, IsTrue, ◌↔◌};
+ghost use Rattle.std.specs.List.{Contains};
+ghost use Rattle.me_terms.specs.Contradictory.{Unifiable};
+ghost use Rattle.me_terms.specs.Validity.{IsValid};
+ghost use Rattle.me_terms.specs.declared.atom.Pattern.TheVariants as pattern;
+ghost use Rattle.me_laws_increments.specs.Pairs.{IsPair};
+ghost use Rattle.clause_pairs.specs.declared.clause_place.ClausePlace.{ClausePlace as Place};
+ghost use Rattle.clause_pairs.specs.Meetings.{IsAgainst, AddsPlaces, AgainstClause};
+
+use crate::clause_place::ClausePlace;
+use me_terms::{Atom, Clause, Entry, Literal, Pattern, Problem, is_ground, matches};
+use me_unify::Bindings;
+use std::alloc::{AllocError, Global};
+
+/// Whether the two atoms have a common instance, the variables of each its own.
+fn unifies(alloc: Global, atom: &Atom, other: &Atom) -> Result<bool, AllocError>
+    ensures { IfOk result (λ answer. IsTrue answer ↔ Unifiable (pattern.Of atom.now) (pattern.Of other.now)) }
+{
+    if atom.pred != other.pred {
+        return Ok(false);
+    }
+    Bindings::new(alloc).unify(0, atom, 1, other)
+}
+
+/// Whether the pattern and the atom of the literal have a common instance.
+fn meets(alloc: Global, atom: &Pattern, literal: &Literal) -> Result<bool, AllocError>
+    ensures { IfOk result (λ answer. IsTrue answer ↔ Unifiable atom.now (pattern.Of literal.now.atom)) }
+{
+    if is_ground(literal) {
+        return Ok(matches(atom, &literal.atom));
+    }
+    match atom {
+        Pattern::Any => Ok(true),
+        Pattern::Of(other) => unifies(alloc, other, &literal.atom),
+    }
+}
+
+/// Whether the entry has the opposite sign.
+fn is_opposite(entry: &Entry, literal: &Literal) -> bool
+    ensures { IsTrue result ↔ (entry.now.positive ≡ not literal.now.positive) }
+{
+    entry.positive != literal.positive
+}
+
+/// Whether the entry has the opposite sign, and its atom unifies with the literal's.
+fn is_pair(alloc: Global, entry: &Entry, literal: &Literal) -> Result<bool, AllocError>
+    ensures { IfOk result (λ answer. IsTrue answer ↔ IsPair entry.now literal.now) }
+{
+    if is_opposite(entry, literal) {
+        return meets(alloc, &entry.atom, literal);
+    }
+    Ok(false)
+}
+
+/// The places so far, and those of the clause, which stands at place `c` of the problem.
+fn add_clause(
+    alloc: Global,
+    entry: &Entry,
+    clause: &Clause,
+    c: u32,
+    mut places: Vec<ClausePlace>,
+) -> Result<Vec<ClausePlace>, AllocError>
+    requires { length clause.now.literals < 2 ^ 32 - 1 }
+    ensures { IfOk result (λ more. AddsPlaces places.items more.items (AgainstClause entry.now clause.now.literals c)) }
+{
+    let literals = clause.literals.as_slice();
+    for (i, literal) in literals.iter().enumerate() {
+        if is_pair(alloc, entry, literal)? {
+            places.push(ClausePlace {
+                clause: c,
+                place: i as u32,
+            })?;
+        }
+    }
+    Ok(places)
+}
+
+/// The places of the problem's clauses against whose literals the entry stands.
+pub(crate) fn places_against(
+    alloc: Global,
+    problem: &Problem,
+    entry: &Entry,
+) -> Result<Vec<ClausePlace>, AllocError>
+    requires { IsValid problem.now }
+    ensures { IfOk result (λ places. (q : Place) → Contains places.items q ↔ IsAgainst problem.now entry.now q) }
+{
+    let mut places = Vec::new(alloc);
+    for (c, clause) in problem.clauses.as_slice().iter().enumerate() {
+        places = add_clause(alloc, entry, clause, c as u32, places)?;
+    }
+    Ok(places)
+}

@@ -1,0 +1,2 @@
+pub mod AskedOptions
+pub mod PrintedAnswers
