@@ -1,6 +1,6 @@
-pub mod Back
 pub mod Descents
 pub mod Ends
+pub mod GoingBack
 pub mod JoinedRuns
 pub mod LeftRight
 pub mod ListedLists

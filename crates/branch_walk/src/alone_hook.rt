@@ -26,7 +26,7 @@ impl<J> Hook<J> for Alone {
 
     ghost seen = { λ _. [] };
 
-    ghost posted = { λ a. a.notes.posted };
+    ghost posted = { λ a. a.notes.keys };
 
     ghost may_give = { λ _ _ _. Unit {0} };
 

@@ -7,8 +7,8 @@ use std::marker::Model;
 
 /// A list of keys that takes no memory: no code reads it.
 #[derive(Drop)]
-pub(crate) struct Notes {
-    pub(crate) ghost posted: { List ℕ } by { coded_list coded_ℕ },
+pub struct Notes {
+    pub ghost keys: { List ℕ } by { coded_list coded_ℕ },
 }
 
 impl Model for Notes {
@@ -17,15 +17,15 @@ impl Model for Notes {
 
 impl Notes {
     /// No key is noted.
-    pub(crate) fn blank() -> Self
-        ensures { result.posted ≡ [] }
+    pub fn blank() -> Self
+        ensures { result.keys ≡ [] }
     {
         Notes {}
     }
 
     /// With a key more.
-    pub(crate) fn noted(self, _key: u16) -> Self
-        ensures { result.posted ≡ self.posted ++ _key ∷ [] }
+    pub fn noted(self, _key: u16) -> Self
+        ensures { result.keys ≡ self.keys ++ _key ∷ [] }
     {
         let Notes {} = self;
         Notes {}

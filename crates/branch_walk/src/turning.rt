@@ -11,16 +11,16 @@ ghost use Rattle.branch_walk.specs.Turning.{EndsLeft, IsAllBack, IsBackAtLeft, b
 use me_terms::{Again, Bounds, Entry, Kind, Literal, Pattern, Problem, Reason, Trunk, View};
 use std::alloc::{AllocError, Global};
 
-/// A problem and bounds.
+/// The search of a problem within bounds, which takes its memory from `alloc`.
 #[derive(Clone, Copy)]
-pub(crate) struct Search<'a> {
-    pub(crate) alloc: Global,
-    pub(crate) problem: &'a Problem,
-    pub(crate) bounds: &'a Bounds,
+pub struct Search<'a> {
+    pub alloc: Global,
+    pub problem: &'a Problem,
+    pub bounds: &'a Bounds,
 }
 
 /// Puts an entry at the end of the branch.
-pub(crate) fn grow<T: Trunk>(branch: &mut T, entry: Entry) -> Result<(), AllocError>
+pub fn grow<T: Trunk>(branch: &mut T, entry: Entry) -> Result<(), AllocError>
     requires literal { IsLiteralEntry entry }
     requires apart { ¬ Contradicts (T.context branch.old) entry.positive entry.kind entry.atom }
     requires room { length (T.context branch.old) < MAX_ENTRIES }
@@ -33,7 +33,7 @@ pub(crate) fn grow<T: Trunk>(branch: &mut T, entry: Entry) -> Result<(), AllocEr
 }
 
 /// The entry of the left branch of a Split.
-pub(crate) fn left_entry(literal: Literal, kind: Kind) -> Entry
+pub fn left_entry(literal: Literal, kind: Kind) -> Entry
     ensures { result ≡ split_entry literal kind SplitLeft }
 {
     Entry {
@@ -76,7 +76,7 @@ fn beside_last<V: View>(alloc: Global, branch: &V) -> Result<Entry, AllocError>
 
 /// Goes back to the last left branch that begins at or behind position `base`, or tells that there is none
 /// and goes back to the base.
-pub(crate) fn back<T: Trunk>(branch: &mut T, base: u32) -> bool
+pub fn back<T: Trunk>(branch: &mut T, base: u32) -> bool
     requires base { (1 ≤ base) × (base ≤ length (T.context branch.old)) }
     ensures left { result ≡ true → IsBackAtLeft base (T.context branch.old) (T.context branch.new) }
     ensures none { result ≡ false → IsAllBack base (T.context branch.old) (T.context branch.new) }
@@ -102,7 +102,7 @@ pub(crate) fn shrink_to<T: Trunk>(branch: &mut T, base: u32)
 
 impl<'a> Search<'a> {
     /// Turns from the left branch that the last entry begins to the right one beside it.
-    pub(crate) fn turn_right<T: Trunk>(&self, branch: &mut T) -> Result<(), AllocError>
+    pub fn turn_right<T: Trunk>(&self, branch: &mut T) -> Result<(), AllocError>
         requires bounds { IsLawful self.now.bounds.now }
         requires grown { IsGrown self.now.problem.now self.now.bounds.now (T.context branch.old) }
         requires left { EndsLeft (T.context branch.old) }

@@ -12,7 +12,7 @@ ghost use Rattle.branch_walk.specs.Tallies.{IsTally, AddsAtMost, TakesOwnLeaf};
 ghost use Rattle.branch_walk.specs.Walks.{Hears, IsVisited};
 
 use crate::job::Job;
-use crate::node_key::{node_key, told_cut};
+use crate::keys::{node_key, told_cut};
 use crate::state::Visit;
 use crate::tally::Tally;
 use crate::turning::{Search, grow, left_entry};

@@ -3,11 +3,12 @@ ghost use Rattle.std.specs.Prelude.{◌<◌, ◌-◌, ◌^◌, length};
 ghost use Rattle.joint_unifiers.specs.ClauseUnifiers.{IsSkip};
 
 use crate::script::{say, say_numbers, say_whether};
-use context_unifier::{Cursor, Limits, is_productive, next_unifier};
+use context_unifier::{is_productive, next_unifier};
 use me_context::Context;
-use me_terms::{Clause, Literals, Tuple};
+use me_terms::{Clause, Literals, Tuple, View};
 use std::alloc::Global;
 use std::test::Fail;
+use tuple_search::{Cursor, Limits, Pivot};
 
 /// Prints the next tuples of the cursor, up to nine.
 fn push_all(cursor: &mut Cursor<'_, Context>, out: &mut Vec<u8>) -> Result<(), Fail> {
@@ -83,6 +84,7 @@ pub(crate) fn push_asserting(
     let limits = Limits {
         remaining: Some(0),
         weight: Some(2),
+        pivot: None,
     };
     push_within(
         alloc,
@@ -92,6 +94,29 @@ pub(crate) fn push_asserting(
         limits,
         out,
     )
+}
+
+/// Prints, for each index, the tuples that have the newest entry as their pivot there.
+pub(crate) fn push_pivots(
+    alloc: Global,
+    context: &Context,
+    literals: &Literals,
+    out: &mut Vec<u8>,
+) -> Result<(), Fail> {
+    let places = literals.len();
+    if places > 1_000 {
+        return Err("too long for a script".into());
+    }
+    let position = context.len().saturating_sub(1);
+    for index in 0..places as u32 {
+        let limits = Limits {
+            remaining: None,
+            weight: None,
+            pivot: Some(Pivot { position, index }),
+        };
+        push_within(alloc, context, literals, None, limits, out)?;
+    }
+    Ok(())
 }
 
 /// Prints the first unifier's tuple, its remainder, and whether it is productive.

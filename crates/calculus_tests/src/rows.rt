@@ -107,6 +107,15 @@ pub(crate) const ROWS: &[(&[u8], &[u8])] = &[
         b"cnf(universal,plain,~p(a)). cnf(closing,plain,p(b)).",
         b".;",
     ),
+    // Tuples with the newest entry as their pivot, at one index after another.
+    (
+        b"cnf(universal,plain,~p(a)). cnf(pivots,plain,p(X)|p(X)).",
+        b"1 0;1 1;.;0 1;.;",
+    ),
+    (
+        b"cnf(universal,plain,~p(a)). cnf(universal,plain,~q(b)). cnf(pivots,plain,p(X)|q(Y)|q(Z)).",
+        b".;0 2 0;0 2 2;1 2 0;1 2 2;.;0 0 2;1 0 2;.;",
+    ),
     // Whether the first unifier is productive; its tuple and its remainder.
     (
         b"cnf(universal,plain,~p(a)). cnf(productive,plain,p(X)).",

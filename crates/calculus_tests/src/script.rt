@@ -56,6 +56,7 @@ fn call(
         (b"tuples", _) => enumeration::push_tuples(alloc, context, &clause.literals, out),
         (b"closing", _) => enumeration::push_closing(alloc, context, &clause.literals, out),
         (b"asserting", _) => enumeration::push_asserting(alloc, context, &clause.literals, out),
+        (b"pivots", _) => enumeration::push_pivots(alloc, context, &clause.literals, out),
         (b"productive", _) => enumeration::push_productive(alloc, context, clause, out),
         (b"productive_ones", _) => enumeration::push_last(alloc, context, clause, out),
         (b"apart", [left, right]) => equations::unify(equations, 1, left, right, out),

@@ -7,8 +7,8 @@ use Rattle.me_terms.specs.Context.{Context}
 use Rattle.me_terms.specs.Unifier.{IsContextUnifier}
 use Rattle.me_terms.specs.declared.atom.Literal.{Literal}
 use Rattle.me_unify.proofs.Forest.{if_ok_map}
-use Rattle.context_unifier.specs.Enumeration.{no_limits, HasUnifier, IsLastTuple}
-use Rattle.context_unifier.specs.Cursors.{CursorValue, IsAdvanced, IsAtEnd}
+use Rattle.tuple_search.specs.Enumeration.{no_limits, HasUnifier, IsLastTuple}
+use Rattle.tuple_search.specs.Cursors.{CursorValue, IsAdvanced, IsAtEnd}
 
 -- a cursor over all tuples of the literals that have a unifier
 abbrev over_all : Context → Option (List ℕ) → List Literal → CursorValue

@@ -1,16 +1,7 @@
-pub mod Ahead
-pub mod Around
 pub mod Asked
-pub mod Beyond
 pub mod Followed
 pub mod FrozenClauses
 pub mod FrozenSolutions
-pub mod PrefixEquations
-pub mod Prefixes
 pub mod Produced
-pub mod Remains
-pub mod Steps
-pub mod StepsLeft
 pub mod Undisputed
 pub mod Unfreezing
-pub mod Unifiers

@@ -1,6 +1,3 @@
-pub mod Cursors
-pub mod Enumeration
 pub mod Frozen
-pub mod Frontiers
+pub mod NextUnifiers
 pub mod Production
-pub mod Targets

@@ -1,20 +1,14 @@
-//! The enumeration of a clause's context unifiers in tuple order, and which of them are productive.
+//! The next context unifier of a clause in tuple order, and whether one is productive.
 //!
-//! A `Cursor` goes from one tuple that has a unifier to the next. It keeps what its first places bind, so
-//! no tuple is tried whose first positions do not unify, or are beyond its `Limits`.
+//! `next_unifier` takes the tuple from a cursor. `is_productive` asks each place for exceptions, at a literal
+//! that is too heavy to be written out by frozen equations.
 #![tactic(auto)]
 
-mod cursor;
 mod exceptions;
 mod freezing;
-mod frontier;
 mod frozen;
-mod limits;
 mod next;
 mod productive;
-mod targets;
 
-pub use cursor::Cursor;
-pub use limits::Limits;
 pub use next::next_unifier;
 pub use productive::is_productive;

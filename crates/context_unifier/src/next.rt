@@ -1,14 +1,14 @@
 //! The next context unifier of a clause.
 ghost use Rattle.std.specs.Prelude.{◌≡◌, ◌<◌, ◌-◌, ◌^◌, List, ℕ, length, IfOk, IfSome, IsNone, None};
 ghost use Rattle.std.specs.Option.{option_map};
-ghost use Rattle.context_unifier.specs.Enumeration.{no_limits, IsNextUnifier, IsLastTuple};
-ghost use Rattle.context_unifier.specs.Cursors.{CursorValue};
+ghost use Rattle.tuple_search.specs.Enumeration.{no_limits, IsLastTuple};
+ghost use Rattle.tuple_search.specs.Cursors.{CursorValue};
+ghost use Rattle.context_unifier.specs.NextUnifiers.{IsNextUnifier};
 
-use crate::cursor::Cursor;
-use crate::limits::Limits;
 use joint_unifiers::{Unifier, joint_unifier};
 use me_terms::{Clause, Literals, Tuple, View};
 use std::alloc::{AllocError, Global};
+use tuple_search::{Cursor, Limits};
 
 /// A cursor at the given tuple, or before all.
 fn start<'a, V: View>(

@@ -17,8 +17,8 @@ use Rattle.me_terms.specs.declared.atom.Literal.{Literal}
 use Rattle.me_laws.proofs.Determined.{clause_same, assert_determined, precedes_antisymmetric}
 use Rattle.me_laws_existence.proofs.Best.{precedes_itself}
 use Rattle.joint_unifiers.proofs.CanonicalMeasures.{canonical_weight}
-use Rattle.context_unifier.specs.Enumeration.{IsLater, IsWithinCursorLimits, HasUnifier, IsNextTuple, IsLastTuple}
-use Rattle.context_unifier.specs.Cursors.{CursorValue}
+use Rattle.tuple_search.specs.Enumeration.{IsLater, IsWithinCursorLimits, HasUnifier, IsNextTuple, IsLastTuple}
+use Rattle.tuple_search.specs.Cursors.{CursorValue}
 use Rattle.assert_rule.specs.AssertOrder as order
 use Rattle.assert_rule.specs.AssertedEntries.{Asserts}
 use Rattle.next_rule.specs.Best.{Improves}
@@ -146,6 +146,7 @@ module _ (problem : ProblemValue) (bounds : Bounds) (context : Context) where
   light_family : (best : Option EntryValue) (c place : ℕ) (tuple : List ℕ) (e : EntryValue) (h : IsAssert problem bounds context c place tuple e) → Improves assert_rank best e → IsWithinCursorLimits (assert_limits bounds best) context h.clause.literals (Some place) tuple h.family
   light_family best c place tuple e h improves = record {
     remains = none_within h.no_remainder;
+    pivot = tt;
     weighs = λ l at.
         let light = improves_light bounds best e (asserted_within c place tuple e h) improves in
         let P : ℕ → Type 0 = λ z. z ≤ weight_limit bounds best in

@@ -9,7 +9,7 @@ use Rattle.me_terms.specs.Close.{IsClose, HasClose}
 use Rattle.me_terms.specs.Order.{Precedes, IsLeastClose}
 use Rattle.me_laws.proofs.Determined.{clause_same}
 use Rattle.me_laws_existence.proofs.Best.{compared}
-use Rattle.context_unifier.specs.Enumeration.{remainder_limit, HasUnifier, IsNextTuple, IsLastTuple}
+use Rattle.tuple_search.specs.Enumeration.{remainder_limit, HasUnifier, IsNextTuple, IsLastTuple}
 use Rattle.next_rule.proofs.Sizes.{none_within, within_none}
 
 module _ (problem : ProblemValue) (context : Context) where
@@ -20,7 +20,7 @@ module _ (problem : ProblemValue) (context : Context) where
   unifier_of : (c : ℕ) (clause : ClauseValue) (tuple : List ℕ) → ClauseAt problem c clause → IsClose problem context c tuple → HasUnifier context clause.literals None (remainder_limit (Some 0)) tuple
   unifier_of c clause tuple at h =
       let Q : ClauseValue → Type 0 = λ z. HasUnifier context z.literals None (remainder_limit (Some 0)) tuple in
-      subst Q (clause_same problem c h.clause clause h.clause_at at) (h.family, h.unifier, record { remains = none_within h.no_remainder; weighs = tt })
+      subst Q (clause_same problem c h.clause clause h.clause_at at) (h.family, h.unifier, record { remains = none_within h.no_remainder; weighs = tt; pivot = tt })
 
   pub none_closes : (n : ℕ) (clause : ClauseValue) → ClauseAt problem n clause → IsLastTuple context clause.literals None (remainder_limit (Some 0)) None → NoneCloses n → NoneCloses (n + 1)
   none_closes n clause at last before c tuple lt h =

@@ -9,8 +9,8 @@ use Rattle.me_terms.specs.Order.{Precedes}
 use Rattle.me_terms.specs.declared.atom.Literal.{Literal}
 use Rattle.me_laws_existence.proofs.Codes.{Within}
 use Rattle.me_laws_existence.proofs.Opposed.{tuple_within}
-use Rattle.context_unifier.specs.declared.limits.Limits.{Limits}
-use Rattle.context_unifier.specs.Enumeration.{IsNextTuple}
+use Rattle.tuple_search.specs.declared.limits.Limits.{Limits}
+use Rattle.tuple_search.specs.Enumeration.{IsNextTuple}
 
 -- how many tuples of so many positions below n there are
 abbrev pub tuples : ℕ → ℕ → ℕ

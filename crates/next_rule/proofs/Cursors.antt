@@ -3,9 +3,9 @@ use Rattle.std.proofs.Common.{◌≡◌, ℕ, ◌<◌, List, length, Option, Som
 use Rattle.std.proofs.lemmas.Option.{same_Some}
 use Rattle.me_terms.specs.Context.{Context}
 use Rattle.me_terms.specs.declared.atom.Literal.{Literal}
-use Rattle.context_unifier.specs.declared.limits.Limits.{Limits}
-use Rattle.context_unifier.specs.Enumeration.{IsNextTuple, IsLastTuple}
-use Rattle.context_unifier.specs.Cursors.{CursorValue, IsAdvanced, IsAtEnd}
+use Rattle.tuple_search.specs.declared.limits.Limits.{Limits}
+use Rattle.tuple_search.specs.Enumeration.{IsNextTuple, IsLastTuple}
+use Rattle.tuple_search.specs.Cursors.{CursorValue, IsAdvanced, IsAtEnd}
 use Rattle.next_rule.proofs.Codes.{StandsAtOne, tuples_left, width, fewer_left}
 
 -- A cursor over these, wherever it stands.

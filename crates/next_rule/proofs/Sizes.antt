@@ -2,7 +2,7 @@
 use Rattle.std.proofs.Common.{◌≡◌, ℕ, ◌≤◌, inl, inr, List, [], ◌∷◌, length, Option, Some, None, ap, arith}
 use Rattle.std.proofs.lemmas.List.{nil_from_length}
 use Rattle.me_terms.specs.Order.{Precedes}
-use Rattle.context_unifier.specs.Enumeration.{IsAtMost}
+use Rattle.tuple_search.specs.Enumeration.{IsAtMost}
 use Rattle.next_rule.specs.Best.{Improves}
 use Rattle.next_rule.specs.SplitSearches.{split_rank, size_limit}
 use Rattle.next_rule.specs.declared.split_state.SplitCandidate.{SplitCandidate}

@@ -12,8 +12,8 @@ use Rattle.me_terms.specs.Next.{IsFirstRemaining, IsBeyond}
 use Rattle.me_terms.specs.declared.bounds.Bound.{Bound}
 use Rattle.me_terms.specs.declared.bounds.Bounds.{Bounds}
 use Rattle.me_terms.specs.declared.atom.Literal.{Literal}
-use Rattle.context_unifier.specs.Enumeration.{no_limits, HasUnifier, IsNextTuple, IsLastTuple}
-use Rattle.context_unifier.specs.Cursors.{CursorValue}
+use Rattle.tuple_search.specs.Enumeration.{no_limits, HasUnifier, IsNextTuple, IsLastTuple}
+use Rattle.tuple_search.specs.Cursors.{CursorValue}
 use Rattle.next_rule.specs.SplitSearches.{split_limits, SplitTuple, SplitsPassed, SplitClause, SplitClauses, TakesSplits, IsFirstRemainingIn, MeetsFirst, Looks, IsSplitResult}
 use Rattle.next_rule.specs.declared.split_state.SplitCandidate.{SplitCandidate}
 use Rattle.next_rule.specs.declared.split_state.SplitState.{SplitState}
@@ -33,7 +33,7 @@ module _ (problem : ProblemValue) (bounds : Bounds) (context : Context) where
     productive_at : (c' : ℕ) (tuple : List ℕ) (other : ClauseValue) (f : Family) → c' ≡ c → IsProductiveUnifier problem context c' tuple other f → HasUnifier context clause.literals None no_limits tuple
     productive_at c' tuple other f same p =
         let Q : ClauseValue → Type 0 = λ z. HasUnifier context z.literals None no_limits tuple in
-        subst Q (clause_of problem bounds context c clause at_clause c' other same p.clause_at) (f, p.unifier, record { remains = tt; weighs = tt })
+        subst Q (clause_of problem bounds context c clause at_clause c' other same p.clause_at) (f, p.unifier, record { remains = tt; weighs = tt; pivot = tt })
 
     tuple_turn : (at : Option (List ℕ)) (next : List ℕ) → IsNextTuple context clause.literals None no_limits at next → InTurn problem bounds context (SplitsPassed c at) (SplitTuple c next) (SplitsPassed c (Some next))
     tuple_turn at next is_next = record {

@@ -10,7 +10,7 @@ use Rattle.me_terms.specs.Split.{split_kind, HasSplit}
 use Rattle.me_terms.specs.Order.{Precedes, split_key, IsLeastSplit}
 use Rattle.me_terms.specs.declared.bounds.Bounds.{Bounds}
 use Rattle.me_laws.proofs.Determined.{clause_same, precedes_antisymmetric}
-use Rattle.context_unifier.specs.Enumeration.{IsAtMost, IsLater, HasUnifier, IsNextTuple, IsLastTuple}
+use Rattle.tuple_search.specs.Enumeration.{IsAtMost, IsLater, HasUnifier, IsNextTuple, IsLastTuple}
 use Rattle.next_rule.specs.Best.{Improves}
 use Rattle.next_rule.specs.SplitSearches.{SplitAt, split_rank, size_limit, split_limits, SplitRegion, SplitTuple, SplitsPassed, SplitClause, SplitClauses, TakesSplits}
 use Rattle.next_rule.specs.declared.split_state.SplitCandidate.{SplitCandidate}
@@ -71,7 +71,7 @@ module _ (problem : ProblemValue) (bounds : Bounds) (context : Context) where
         let f = x.holds in
         let P : ℕ → Type 0 = λ z. IsAtMost (size_limit best) z in
         let Q : ClauseValue → Type 0 = λ z. HasUnifier context z.literals None (split_limits best) x.tuple in
-        subst Q (clause_of x.clause f.clause same f.productive.clause_at) (f.family, f.productive.unifier, record { remains = subst P f.size_of (improves_within best (given x) improves); weighs = tt })
+        subst Q (clause_of x.clause f.clause same f.productive.clause_at) (f.family, f.productive.unifier, record { remains = subst P f.size_of (improves_within best (given x) improves); weighs = tt; pivot = tt })
 
     in_turn : (x y : Candidate) → x.clause ≡ c → y.clause ≡ c → Precedes x.tuple y.tuple → ¬ (x.tuple ≡ y.tuple) → Precedes (x.clause ∷ (x.tuple ++ x.place ∷ [])) (y.clause ∷ (y.tuple ++ y.place ∷ []))
     in_turn x y a b before apart =

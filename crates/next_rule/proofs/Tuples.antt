@@ -6,8 +6,8 @@ use Rattle.me_terms.specs.declared.atom.Literal.{Literal}
 use Rattle.me_laws.proofs.Determined.{precedes_antisymmetric}
 use Rattle.me_laws.proofs.Decisions.{both_decided, not_decided}
 use Rattle.me_laws_existence.proofs.Best.{precedes_itself, precedes_transitive, precedes_total}
-use Rattle.context_unifier.specs.declared.limits.Limits.{Limits}
-use Rattle.context_unifier.specs.Enumeration.{IsLater, HasUnifier, IsNextTuple}
+use Rattle.tuple_search.specs.declared.limits.Limits.{Limits}
+use Rattle.tuple_search.specs.Enumeration.{IsLater, HasUnifier, IsNextTuple}
 use Rattle.next_rule.proofs.Keys.{same_key}
 
 precedes_decided : (a b : List ℕ) → Precedes a b ⊎ (¬ Precedes a b)

@@ -7,8 +7,8 @@ use Rattle.me_terms.specs.Order.{kind_rank, pattern_weight, assert_key}
 use Rattle.me_terms.specs.declared.bounds.Bounds.{Bounds}
 use Rattle.me_terms.specs.declared.entry.Kind.{Kind}
 use Rattle.me_terms.specs.declared.entry.Kind.TheVariants.{Universal, Parametric}
-use Rattle.context_unifier.specs.declared.limits.Limits.{Limits}
-use Rattle.context_unifier.specs.Enumeration.{IsLater}
+use Rattle.tuple_search.specs.declared.limits.Limits.{Limits}
+use Rattle.tuple_search.specs.Enumeration.{IsLater}
 use Rattle.next_rule.specs.Best.{Updates}
 
 -- An Assert: the clause, the place in it, the tuple, and the entry.
@@ -35,7 +35,7 @@ weight_limit bounds (Some best) = weight_before bounds.weight best.kind (pattern
 
 -- The limits of the unifiers whose Asserts may come before the best entry so far: nothing remains, and the literal is light enough.
 abbrev pub assert_limits : Bounds → Option EntryValue → Limits
-assert_limits bounds best = record { remaining = Some 0; weight = Some (weight_limit bounds best) }
+assert_limits bounds best = record { remaining = Some 0; weight = Some (weight_limit bounds best); pivot = None }
 
 -- Some of the places of clauses and their tuples.
 abbrev pub AssertRegion : Type 1

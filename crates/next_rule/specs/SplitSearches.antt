@@ -15,8 +15,8 @@ use Rattle.me_terms.specs.declared.bounds.Bound.{Bound}
 use Rattle.me_terms.specs.declared.bounds.Bounds.{Bounds}
 use Rattle.me_terms.specs.declared.atom.Literal.{Literal}
 use Rattle.me_unify.specs.Equations.{IsMostGeneral}
-use Rattle.context_unifier.specs.declared.limits.Limits.{Limits}
-use Rattle.context_unifier.specs.Enumeration.{remainder_limit, IsLater}
+use Rattle.tuple_search.specs.declared.limits.Limits.{Limits}
+use Rattle.tuple_search.specs.Enumeration.{remainder_limit, IsLater}
 use Rattle.joint_unifiers.specs.ClauseUnifiers.{UnifierValue, IsUnifierOf}
 use Rattle.next_rule.specs.declared.split_state.SplitCandidate.{SplitCandidate}
 use Rattle.next_rule.specs.declared.split_state.SplitState.{SplitState}

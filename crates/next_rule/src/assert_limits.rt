@@ -6,8 +6,8 @@ ghost use Rattle.std.specs.Prelude.{◌≡◌, Some};
 ghost use Rattle.next_rule.specs.AssertSearches.{weight_limit, assert_limits};
 
 use assert_rule::Candidate;
-use context_unifier::Limits;
 use me_terms::{Bounds, Kind};
+use tuple_search::Limits;
 
 /// The most that an entry may weigh that comes before this one.
 fn weight_before(bounds: &Bounds, best: &Candidate) -> u64
@@ -30,5 +30,6 @@ pub(crate) fn limits_before(bounds: &Bounds, best: &Option<Candidate>) -> Limits
     Limits {
         remaining: Some(0),
         weight: Some(weight),
+        pivot: None,
     }
 }

@@ -11,9 +11,9 @@ ghost use Rattle.next_rule.specs.AssertSearches.{AssertTuple, AssertPlace, Asser
 use crate::assert_limits::limits_before;
 use crate::search::Search;
 use assert_rule::{Candidate, assert_before};
-use context_unifier::Cursor;
 use me_terms::{Clause, Entry, Tuple, View};
 use std::alloc::AllocError;
+use tuple_search::Cursor;
 
 impl<'a, V: View> Search<'a, V> {
     /// The best entry so far, or that of the Assert of the tuple where it comes before.

@@ -2,13 +2,13 @@
 ghost use Rattle.std.specs.Prelude.{◌<◌, ◌-◌, ◌^◌, Some, None, length, IfOk, IfSome, IfNone};
 ghost use Rattle.me_terms.specs.Close.{HasClose};
 ghost use Rattle.me_terms.specs.Order.{IsLeastClose};
-ghost use Rattle.context_unifier.specs.Enumeration.{remainder_limit, IsNextTuple, IsLastTuple};
+ghost use Rattle.tuple_search.specs.Enumeration.{remainder_limit, IsNextTuple, IsLastTuple};
 ghost use Rattle.next_rule.specs.FewPlaces.{HasFewPlaces};
 
 use crate::search::Search;
-use context_unifier::{Cursor, Limits};
 use me_terms::{Clause, Tuple, View};
 use std::alloc::AllocError;
+use tuple_search::{Cursor, Limits};
 
 /// A clause, by its place in the problem, and a tuple of positions.
 #[derive(Drop)]

@@ -17,11 +17,12 @@ ghost use Rattle.next_rule.specs.SplitSearches.{SplitTuple, SplitClause, SplitCl
 
 use crate::search::Search;
 use crate::split_state::{SplitCandidate, SplitState};
-use context_unifier::{Cursor, is_productive};
+use context_unifier::is_productive;
 use joint_unifiers::{Unifier, joint_unifier};
 use me_terms::{Bound, Bounds, Clause, Tuple, View};
 use split_rule::{SplitChoice, split_of};
 use std::alloc::AllocError;
+use tuple_search::Cursor;
 
 /// The bound that the literal of that place is beyond under the unifier; depth goes before weight.
 fn bound_beyond(unifier: &Unifier, place: u32, bounds: &Bounds) -> Bound

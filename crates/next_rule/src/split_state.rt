@@ -4,8 +4,8 @@ ghost use Rattle.me_terms.specs.Next as step;
 ghost use Rattle.me_terms.specs.AnswerViews.{next_value};
 ghost use Rattle.next_rule.specs.SplitSearches.{IsSmaller, split_limits};
 
-use context_unifier::Limits;
 use me_terms::{Bound, Kind, Literal, Next};
+use tuple_search::Limits;
 
 /// A literal that may be split on.
 #[derive(Drop)]

@@ -1,5 +1,5 @@
 use Rattle.std.proofs.Common.{arith}
-use Rattle.branch_walk.proofs.Back.{at_left}
+use Rattle.branch_walk.proofs.GoingBack.{at_left}
 use Rattle.branch_walk.proofs.turning.back.Goals as goal
 
 pub returns-then-ends_left-clause-left : goal.returns-then-ends_left-clause-left

@@ -1,5 +1,5 @@
 use Rattle.std.proofs.Common.{length}
-use Rattle.branch_walk.proofs.Back.{IsBack}
+use Rattle.branch_walk.proofs.GoingBack.{IsBack}
 use Rattle.branch_walk.proofs.turning.back.Given as goal
 
 abbrev pub invariant-back : goal.invariant-back

@@ -1,5 +1,5 @@
 use Rattle.std.proofs.Common.{arith}
-use Rattle.branch_walk.proofs.Back.{shrinks_more, taken_off}
+use Rattle.branch_walk.proofs.GoingBack.{shrinks_more, taken_off}
 use Rattle.branch_walk.proofs.turning.shrink_to.Goals as goal
 
 pub back-preserved : goal.back-preserved

@@ -1,5 +1,5 @@
 use Rattle.std.proofs.Common.{length}
-use Rattle.branch_walk.proofs.Back.{Shrinks}
+use Rattle.branch_walk.proofs.GoingBack.{Shrinks}
 use Rattle.branch_walk.proofs.turning.shrink_to.Given as goal
 
 abbrev pub invariant-back : goal.invariant-back

@@ -14,16 +14,16 @@ stayed = tt
 abbrev token_val : Val
 token_val = vstruct (of_list [])
 
-made : {M : Type 1} {𝓤 : Ura M} (𝓛 : Logic 𝓤) (keys : List ℕ) → ent 𝓤 (emp 𝓤) (sem 𝓛 (R.own_val (record { posted = keys }) (token_val ∷ [])))
-made 𝓛 keys = makes_shadow 𝓛 (R.own_val (record { posted = keys }) (token_val ∷ [])) ((λ uss. (tt, tt)), tt) ((tt, (refl, tt)), tt)
+made : {M : Type 1} {𝓤 : Ura M} (𝓛 : Logic 𝓤) (keys : List ℕ) → ent 𝓤 (emp 𝓤) (sem 𝓛 (R.own_val (record { keys = keys }) (token_val ∷ [])))
+made 𝓛 keys = makes_shadow 𝓛 (R.own_val (record { keys = keys }) (token_val ∷ [])) ((λ uss. (tt, tt)), tt) ((tt, (refl, tt)), tt)
 
 pub blank_spec : {M : Type 1} → statement M
 blank_spec 𝓤 𝓛 𝓜 𝓡 wired =
     let c = f.clauses 𝓛 𝓜.mem 𝓡.returns in let W = walk_of 𝓛 f.ended stayed c in let 𝓣 = tables 𝓤 𝓛.H 𝓜 𝓡 𝓡.env in
     proved 𝓛 f.ended stayed c 𝓜 𝓡 tt f.Key.name code.function (code.unfolded 𝓤 𝓛.H 𝓜 𝓡 wired)
     (λ κs. tt) (λ κs. tt) (λ κs qs bounds a gh are.
-    let r : R.Denot = record { posted = [] } in
-    let Told : Type 0 = r.posted ≡ [] in
+    let r : R.Denot = record { keys = [] } in
+    let Told : Type 0 = r.keys ≡ [] in
     let y : W.Ghost = ((κs, qs, bounds, a, tt), gh) in
     qed 𝓛 ((raw (alive 𝓛 f.ended.signature κs qs) ⊛ ‵ (owns (types_at f.ended.signature.params κs) a y.0.4)) ∷ raw ((c κs a).requires gh) ∷ []) ∵
     split ! $ keep ! (0 ∷ []) $

@@ -1,5 +1,5 @@
 use Rattle.std.proofs.Common.{length, ap, arith}
-use Rattle.branch_walk.proofs.Back.{taken_off}
+use Rattle.branch_walk.proofs.GoingBack.{taken_off}
 use Rattle.branch_walk.proofs.Ends.{longer}
 use Rattle.branch_walk.proofs.Reasons.{can_turn}
 use Rattle.branch_walk.proofs.turning.Search.turn_right.Goals as goal

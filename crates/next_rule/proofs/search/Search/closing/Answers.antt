@@ -1,7 +1,7 @@
 use Rattle.std.proofs.Common.{ℕ, ◌≡◌, length, Some, None, subst, arith}
 use Rattle.std.specs.Prelude.{IfSome, IfNone, Option}
 use Rattle.me_terms.specs.Sequences.{SequenceValue}
-use Rattle.context_unifier.specs.Enumeration.{remainder_limit, IsNextTuple, IsLastTuple}
+use Rattle.tuple_search.specs.Enumeration.{remainder_limit, IsNextTuple, IsLastTuple}
 use Rattle.next_rule.proofs.ClauseReads.{clause_read, all_read}
 use Rattle.next_rule.proofs.CloseSteps.{NoneCloses, least_close, none_closes, no_close}
 use Rattle.next_rule.proofs.search.Search.closing.Goals as goal

@@ -1,7 +1,7 @@
 use Rattle.std.proofs.Common.{Some, None, ap, ◌∙◌}
 use Rattle.me_terms.specs.Values.{ClauseValue}
-use Rattle.context_unifier.specs.declared.limits.Limits.{Limits}
-use Rattle.context_unifier.specs.Enumeration.{remainder_limit}
+use Rattle.tuple_search.specs.declared.limits.Limits.{Limits}
+use Rattle.tuple_search.specs.Enumeration.{remainder_limit}
 use Rattle.next_rule.proofs.Cursors.{cursor_at, none_at_all, next_copied}
 use Rattle.next_rule.proofs.search.Search.closing_tuple.Goals as goal
 

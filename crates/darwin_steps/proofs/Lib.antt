@@ -1,0 +1,4 @@
+pub mod Names
+pub mod Results
+pub mod Tracing
+pub mod Walking

@@ -1,0 +1,4 @@
+pub mod HiddenText
+pub mod StepText
+pub mod Told
+pub mod Traces

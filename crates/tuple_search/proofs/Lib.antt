@@ -1,0 +1,12 @@
+pub mod Ahead
+pub mod Around
+pub mod Beyond
+pub mod Fronts
+pub mod Listed
+pub mod PivotPrefixes
+pub mod PrefixEquations
+pub mod Prefixes
+pub mod Remains
+pub mod Steps
+pub mod StepsLeft
+pub mod Unifiers

@@ -1,0 +1,5 @@
+pub mod Cursors
+pub mod Enumeration
+pub mod Frontiers
+pub mod Partners
+pub mod Targets

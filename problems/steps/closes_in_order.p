@@ -1,0 +1,3 @@
+cnf(c1, axiom, p).
+cnf(c2, axiom, ~p).
+cnf(c3, axiom, ~p).

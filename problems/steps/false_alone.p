@@ -1,0 +1,1 @@
+cnf(c1, axiom, $false).

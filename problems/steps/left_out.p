@@ -1,0 +1,2 @@
+cnf(c1, axiom, p | $true).
+cnf(c2, axiom, q | $false).
