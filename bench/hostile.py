@@ -42,6 +42,8 @@ ANSWER = re.compile(
     rb"|Unsatisfiable for \S+\n% SZS output start Refutation for \S+\n(.*\n)*% SZS output end Refutation for \S+)\n"
 )
 
+SUMMARY = re.compile(rb"% SZS status \w+ for \S+\n(% reason \w+\n)?% clauses \d+\n(% size \d+\n)?")
+
 
 def wrong_with(status, output, statuses=range(8)):
     """What is wrong with how a run ended, or None."""
@@ -49,7 +51,7 @@ def wrong_with(status, output, statuses=range(8)):
         return f"signal {-status}"
     if status not in statuses:
         return f"status {status}"
-    if status == 0 and not ANSWER.fullmatch(output) and b"% reason clauses" not in output and not output.startswith(b"% SZS status"):
+    if status == 0 and not ANSWER.fullmatch(output) and not SUMMARY.fullmatch(output):
         return f"status 0 with {output[:80]!r}"
     if status in WORDS:
         due = rf"% SZS status {WORDS[status]} for \S+\n% reason {REASONS[status]}\n".encode()
