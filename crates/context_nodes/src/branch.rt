@@ -43,6 +43,9 @@ impl<'n, R> Model for Branch<'n, R> {
     ghost invariant = { λ b. IsContext (map (λ r. r.now) b.lent.items) × (length b.lent.items ≤ MAX_ENTRIES) × IsHidingOf (map (λ r. r.now) b.lent.items) b.hiding };
 }
 
+// What it refers to is shared by threads, and it owns no more than a list of references and flags.
+unsafe impl<R: Sync> Send for Branch<'_, R> {}
+
 /// Takes the last item off.
 fn take_last<T>(items: &mut Vec<T>) -> T
     requires { 0 < length items.old.items }
