@@ -1,7 +1,8 @@
 -- An asserted entry that is asked for at a new literal is answered by the instance of its clause.
 use Rattle.std.proofs.Common.{◌≡◌, ℕ, suc, ◌+◌, ◌<◌, ◌≤◌, false, List, [], ◌∷◌, ◌++◌, length, map, reverse, take, drop, length-append, length-drop, Option, Some, None, refl, sym, subst, ap, ◌∙◌, arith}
-use Rattle.std.specs.List.{list_any}
+use Rattle.std.specs.List.{All, list_any}
 use Rattle.std.proofs.lemmas.List.{reverse-append, length-take}
+use Rattle.std.proofs.lemmas.List.Elements.{All-append, All-head, All-tail}
 use Rattle.indexmap.specs.IndexSet.{insert_key}
 use Rattle.me_terms.specs.Validity.{IsValid}
 use Rattle.me_terms.specs.Values.{ProblemValue, InstanceValue}
@@ -14,11 +15,12 @@ use Rattle.me_terms.specs.LeafList.{Demand, demands, IsAsserted, Adds, IsLeafLis
 use Rattle.me_terms.specs.Measures.{literals_weight, list_weight}
 use Rattle.me_terms.specs.declared.atom.Literal.{Literal}
 use Rattle.me_laws.proofs.Backed.{grown_backed}
-use Rattle.me_laws.proofs.Lists.{EachOf, each_map, each_append}
+use Rattle.me_laws.proofs.Lists.{EachOf, each_map, all_of}
 use Rattle.me_laws.proofs.OutcomeDetermined.{closing_unique}
 use Rattle.me_laws_existence.proofs.Outcomes.{leaf_list}
 use Rattle.me_laws_refutation.proofs.Sound.{grown_sound}
-use Rattle.me_laws_refutation.proofs.Demands.{IsRight, IsRightBelow}
+use Rattle.me_laws_refutation.specs.RightDemands.{IsRight}
+use Rattle.me_laws_refutation.proofs.Demands.{IsRightBelow}
 use Rattle.me_laws_refutation.proofs.Asked.{AskedFacts, asked_facts}
 use Rattle.me_laws_refutation.proofs.Leaf.{closing_facts}
 use Rattle.ground_refutation.specs.Queue.{same_demand, Completes, IsListing, IsGrownOver, IsDemanded}
@@ -112,8 +114,10 @@ module _ (problem : ProblemValue) (valid : IsValid problem) (context : Context) 
         let P : List Literal × List (Option ℕ) → Type 0 = λ z. EachOf (IsRightBelow problem context d.0) (demands z.0 z.1) in
         subst P (λ i. (sym (exact n.literals (asked_by n.literals n.instance)) i, sym are i)) (facts n.literals n.instance).demands_right
 
-    pub rights : (list : List InstanceValue) → Completes problem context asked (d ∷ waiting) listed list → EachOf (IsRight problem context) waiting → EachOf (IsRight problem context) (waiting ++ demands ls ks)
-    rights list h those = each_append (IsRight problem context) waiting (demands ls ks) those (each_map (IsRightBelow problem context d.0) (IsRight problem context) (λ e k. k.1) (demands ls ks) (below list h))
+    pub rights : (list : List InstanceValue) → Completes problem context asked (d ∷ waiting) listed list → All (IsRight problem context) waiting → All (IsRight problem context) (waiting ++ demands ls ks)
+    rights list h those =
+        let new = each_map (IsRightBelow problem context d.0) (IsRight problem context) (λ e k. k.1) (demands ls ks) (below list h) in
+        All-append (IsRight problem context) waiting (demands ls ks) those (all_of (IsRight problem context) (demands ls ks) new)
 
     pub less : (list : List InstanceValue) → Completes problem context asked (d ∷ waiting) listed list → work_all (longest problem.clauses) (waiting ++ demands ls ks) < work (longest problem.clauses) d.0 + work_all (longest problem.clauses) waiting
     less list h =
@@ -132,12 +136,12 @@ module _ (problem : ProblemValue) (valid : IsValid problem) (context : Context) 
   pub leaf_exists : (list : List InstanceValue) × IsLeafList problem context c tuple list
   leaf_exists = leaf_list problem grown.0 context (grown_backed grown.1) c tuple close
 
-  pub closing_rights : (ks : List (Option ℕ)) → ks ≡ positions_of None tuple → (ls : List Literal) → IsClosingInstance problem context c tuple ls → EachOf (IsRight problem context) (demands ls ks)
+  pub closing_rights : (ks : List (Option ℕ)) → ks ≡ positions_of None tuple → (ls : List Literal) → IsClosingInstance problem context c tuple ls → All (IsRight problem context) (demands ls ks)
   closing_rights ks are ls closing =
       let f = closing_facts problem valid grown.0 context (grown_sound valid grown.1) c tuple ls close closing in
       let each = each_map (IsRightBelow problem context (length context)) (IsRight problem context) (λ e k. k.1) (demands ls (positions_of None tuple)) f.demands_right in
-      let P : List (Option ℕ) → Type 0 = λ os. EachOf (IsRight problem context) (demands ls os) in
-      subst P (sym are) each
+      let P : List (Option ℕ) → Type 0 = λ os. All (IsRight problem context) (demands ls os) in
+      subst P (sym are) (all_of (IsRight problem context) (demands ls (positions_of None tuple)) each)
 
 module _ (problem : ProblemValue) (context : Context) (c : ℕ) (tuple : List ℕ) (ks : List (Option ℕ)) (are : ks ≡ positions_of None tuple) (list : List InstanceValue) (leaf : IsLeafList problem context c tuple list) where
   pub begins : (ls : List Literal) → IsClosingInstance problem context c tuple ls → Completes problem context [] (demands ls ks) (insert_key same_instance [] (instance_at c ls)) list
@@ -151,6 +155,13 @@ module _ (problem : ProblemValue) (context : Context) (c : ℕ) (tuple : List �
       let over = heavy leaf.0 leaf.2 in
       let least = one_weight [] (instance_at c leaf.0) leaf.1 list tt leaf.4 in
       omega (arith, over, least)
+
+-- ---- the front of the queue
+pub first_of : (P : Demand → Type 0) (all waiting : List Demand) (d : Demand) → all ≡ d ∷ waiting → All P all → P d
+first_of P all waiting d is h = let Q : List Demand → Type 0 = λ ds. All P ds in All-head P d waiting (subst Q is h)
+
+pub rest_of : (P : Demand → Type 0) (all waiting : List Demand) (d : Demand) → all ≡ d ∷ waiting → All P all → All P waiting
+rest_of P all waiting d is h = let Q : List Demand → Type 0 = λ ds. All P ds in All-tail P d waiting (subst Q is h)
 
 -- ---- the end
 pub none_first : (ds : List Demand) → ds ≡ drop 1 ds → ds ≡ []

@@ -9,7 +9,7 @@ use Rattle.me_terms.specs.Refuted.{Valuation, IsFalseUnder}
 use Rattle.me_terms.specs.LeafList.{IsLeafList}
 use Rattle.me_terms.specs.Grown.{IsGrown}
 use Rattle.me_terms.specs.declared.bounds.Bounds.{Bounds}
-use Rattle.me_laws_refutation.proofs.Splits.{AreSplitsTrue}
+use Rattle.me_laws_refutation.specs.SplitsTrue.{AreSplitsTrue}
 
 -- Where a valuation makes each split entry of a closed leaf true at its instance by c0, some instance of the leaf's list has only false literals.
 abbrev pub LeafIsRefuted : Type 0

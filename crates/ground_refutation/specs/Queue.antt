@@ -1,7 +1,7 @@
 -- How far the queue of a leaf's list has been worked.
 use Rattle.std.specs.Prelude.{◌≡◌, ◌≤◌, ℕ, ◌++◌, ◌∷◌, [], Bool, true, false, eqb, ◌&&◌, List, reverse, Option, Some}
 use Rattle.std.specs.Bool.{beq}
-use Rattle.std.specs.List.{list_any}
+use Rattle.std.specs.List.{All, list_any}
 use Rattle.me_terms.specs.TermEquality.{same_atom}
 use Rattle.me_terms.specs.Variables.{are_ground}
 use Rattle.me_terms.specs.Measures.{list_weight}
@@ -14,8 +14,7 @@ use Rattle.me_terms.specs.ListedInstances.{IsAskedInstance}
 use Rattle.me_terms.specs.LeafList.{Demand, Adds}
 use Rattle.me_terms.specs.declared.atom.Literal.{Literal}
 use Rattle.me_terms.specs.declared.bounds.Bounds.{Bounds}
-use Rattle.me_laws.proofs.Lists.{EachOf}
-use Rattle.me_laws_refutation.proofs.Demands.{IsRight}
+use Rattle.me_laws_refutation.specs.RightDemands.{IsRight}
 
 -- The demands that wait, worked in turn after those that were asked, make a list of the instances that are listed. The asked ones are in the order in which they were asked.
 abbrev pub Completes : ProblemValue → Context → List Demand → List Demand → List InstanceValue → List InstanceValue → Type 0
@@ -36,7 +35,7 @@ pub record IsListing (bound : ℕ) (listed : List InstanceValue) (weight : ℕ) 
 -- The listed instances are a listing, and each demand that waits is for an entry that holds at its ground literal.
 pub record IsUnderway (problem : ProblemValue) (context : Context) (bound : ℕ) (waiting : List Demand) (listed : List InstanceValue) (weight : ℕ) : Type 0 where
   pub listing : IsListing bound listed weight
-  pub right : EachOf (IsRight problem context) waiting
+  pub right : All (IsRight problem context) waiting
 
 -- The context is grown over the problem, within some bounds.
 abbrev pub IsGrownOver : ProblemValue → Context → Type 0

@@ -9,7 +9,7 @@ ghost use Rattle.me_terms.specs.Measures.{list_weight};
 ghost use Rattle.me_terms.specs.Close.{IsClose};
 ghost use Rattle.me_terms.specs.LeafList.{IsAsserted, IsLeafList};
 ghost use Rattle.me_terms.specs.declared.bounds.TheConstants.{MAX_LIST};
-ghost use Rattle.me_laws_refutation.proofs.Demands.{IsRight};
+ghost use Rattle.me_laws_refutation.specs.RightDemands.{IsRight};
 ghost use Rattle.ground_refutation.specs.Queue.{Completes, IsUnderway, IsGrownOver, same_demand};
 ghost use Rattle.ground_refutation.specs.Work.{longest, work, work_all};
 

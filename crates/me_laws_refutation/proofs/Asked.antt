@@ -31,7 +31,8 @@ use Rattle.me_laws_refutation.proofs.Known.{clause_known}
 use Rattle.me_laws_refutation.proofs.UnifierKnown.{unifier_known}
 use Rattle.me_laws_refutation.proofs.GroundTerms.{constant_ground, ground_under, all_ground_variables}
 use Rattle.me_laws_refutation.proofs.Sound.{IsReason, IsSound}
-use Rattle.me_laws_refutation.proofs.Demands.{IsRight, IsRightBelow, right_demands}
+use Rattle.me_laws_refutation.specs.RightDemands.{IsRight}
+use Rattle.me_laws_refutation.proofs.Demands.{IsRightBelow, right_demands}
 use Rattle.me_laws_refutation.proofs.NoRemainder.{still_none}
 use Rattle.me_laws.proofs.NoContradiction.{ground_atom}
 use Rattle.me_laws_refutation.proofs.Constants.{read_canonical, ground_canonical, everywhere, all_constant}

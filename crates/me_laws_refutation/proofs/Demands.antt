@@ -22,17 +22,10 @@ use Rattle.me_terms.specs.declared.atom.Pattern.TheVariants.{Any, Of}
 use Rattle.me_laws.proofs.Generality.{arguments_followed, atom_followed}
 use Rattle.me_laws.proofs.Renaming.{Each, variables_agree_all}
 use Rattle.me_laws.proofs.Lists.{EachOf}
+use Rattle.me_laws_refutation.specs.RightDemands.{IsRight}
 use Rattle.me_laws_refutation.proofs.Known.{AreKnownLiterals}
 use Rattle.me_laws_refutation.proofs.GroundTerms.{all_ground_under}
 use Rattle.me_laws_refutation.proofs.NoRemainder.{none_left}
-
--- An entry stands at the position that holds at the literal, a Parametric one at its instance by c0; the literal is ground.
-pub record IsRight (problem : ProblemValue) (context : Context) (d : Demand) : Type 0 where
-  pub entry : EntryValue
-  pub stands : StandsAt context d.0 entry
-  pub same_sign : entry.positive ≡ d.1.positive
-  pub holds : IsAtomWith (λ b. IsInstance b d.1.atom × (entry.kind ≡ Parametric → apply_atom (λ x. constant problem.c0) b ≡ d.1.atom)) entry.atom
-  pub ground : are_ground_terms problem d.1.atom.args ≡ true
 
 -- ---- an entry holds where it is asked
 variable_reads : (m : Substitution) (c t : TermValue) → is_variable t ≡ true → ((y : ℕ) → m y ≡ c) → apply_term m t ≡ c

@@ -20,11 +20,12 @@ use Rattle.me_laws_refutation.proofs.Known.{clause_known}
 use Rattle.me_laws_refutation.proofs.UnifierKnown.{unifier_known}
 use Rattle.me_laws_refutation.proofs.GroundTerms.{constant_ground, ground_under}
 use Rattle.me_laws_refutation.proofs.Sound.{IsSound}
-use Rattle.me_laws_refutation.proofs.Demands.{IsRight, IsRightBelow, right_demands}
+use Rattle.me_laws_refutation.specs.RightDemands.{IsRight}
+use Rattle.me_laws_refutation.proofs.Demands.{IsRightBelow, right_demands}
 use Rattle.me_laws_refutation.proofs.NoRemainder.{still_none}
 use Rattle.me_laws_refutation.proofs.Asked.{instance_ground}
 use Rattle.me_laws_refutation.proofs.Places.{IsTrueUnder, HasTrue, IsGroundOf, true_place, never_none}
-use Rattle.me_laws_refutation.proofs.Splits.{AreSplitsTrue}
+use Rattle.me_laws_refutation.specs.SplitsTrue.{AreSplitsTrue}
 use Rattle.me_laws_refutation.proofs.Truth.{all_ground, truths}
 
 abbrev pub IsFalse : Valuation → InstanceValue → Type 0

@@ -20,7 +20,7 @@ use Rattle.me_laws.proofs.Added.{add_cases}
 use Rattle.me_laws_refutation.proofs.Joined.{some_joined_left, some_joined_right, each_joined}
 use Rattle.me_laws_refutation.proofs.Sound.{IsSound, start_sound, next_assert, next_left, next_right}
 use Rattle.me_laws_refutation.proofs.Places.{IsGroundOf}
-use Rattle.me_laws_refutation.proofs.Splits.{IsSplitTrue, AreSplitsTrue}
+use Rattle.me_laws_refutation.specs.SplitsTrue.{IsSplitTrue, AreSplitsTrue}
 use Rattle.me_laws_refutation.proofs.Leaf.{IsFalse, sign_cases, leaf_ground, leaf_refuted}
 
 -- ---- the walk

@@ -3,25 +3,13 @@ use Rattle.std.proofs.Common.{◌≡◌, ℕ, Bool, true, ◌⊎◌, inl, inr, s
 use Rattle.me_terms.specs.Terms.{TermValue, AtomValue}
 use Rattle.me_terms.specs.Substitutions.{apply_atom, IsInstance}
 use Rattle.me_terms.specs.Variables.{are_ground}
-use Rattle.me_terms.specs.Values.{ProblemValue, EntryValue, ReasonValue, Pseudo, Asserted, SplitLeft, SplitRight}
-use Rattle.me_terms.specs.Context.{Context, StandsAt, IsAtomWith}
+use Rattle.me_terms.specs.Context.{IsAtomWith}
 use Rattle.me_terms.specs.Refuted.{Valuation}
-use Rattle.me_terms.specs.ListedInstances.{constant}
 use Rattle.me_terms.specs.declared.entry.Kind.{Kind}
 use Rattle.me_terms.specs.declared.entry.Kind.TheVariants.{Parametric}
 use Rattle.me_terms.specs.declared.atom.Pattern.{Pattern}
 use Rattle.me_terms.specs.declared.atom.Pattern.TheVariants.{Any, Of}
 use Rattle.me_laws.proofs.NoContradiction.{ground_atom}
-
--- The split entries are true at their instances by c0.
-abbrev pub IsSplitTrue : ProblemValue → Valuation → EntryValue → ReasonValue → Type 0
-IsSplitTrue problem value e Pseudo = Unit {0}
-IsSplitTrue problem value e (Asserted c place tuple) = Unit {0}
-IsSplitTrue problem value e SplitLeft = IsAtomWith (λ b. value (apply_atom (λ x. constant problem.c0) b) ≡ e.positive) e.atom
-IsSplitTrue problem value e SplitRight = IsAtomWith (λ b. value (apply_atom (λ x. constant problem.c0) b) ≡ e.positive) e.atom
-
-abbrev pub AreSplitsTrue : ProblemValue → Valuation → Context → Type 0
-AreSplitsTrue problem value context = (k : ℕ) (e : EntryValue) → StandsAt context k e → IsSplitTrue problem value e e.reason
 
 pub split_true : (c : TermValue) (value : Valuation) (p : Pattern) (kind : Kind) (positive : Bool) (g : AtomValue) → IsAtomWith (λ b. (kind ≡ Parametric) ⊎ (are_ground b.args ≡ true)) p → IsAtomWith (λ b. value (apply_atom (λ x. c) b) ≡ positive) p → IsAtomWith (λ b. IsInstance b g × (kind ≡ Parametric → apply_atom (λ x. c) b ≡ g)) p → value g ≡ positive
 split_true c value Any kind positive g h true_there holds = absurd h

@@ -10,10 +10,12 @@ use Rattle.me_terms.specs.LeafList.{Demand, demands, IsAsserted, AddsNothing, Ad
 use Rattle.me_terms.specs.declared.bounds.Bounds.{Bounds}
 use Rattle.me_laws.proofs.Lists.{EachOf, each_contains, each_map, each_append, each_left, each_right}
 use Rattle.me_laws_refutation.proofs.Sound.{IsReason, IsSound}
-use Rattle.me_laws_refutation.proofs.Demands.{IsRight, IsRightBelow}
+use Rattle.me_laws_refutation.specs.RightDemands.{IsRight}
+use Rattle.me_laws_refutation.proofs.Demands.{IsRightBelow}
 use Rattle.me_laws_refutation.proofs.Asked.{asked_facts}
 use Rattle.me_laws_refutation.proofs.Places.{IsTrueUnder, HasTrue, IsGroundOf, asked_true}
-use Rattle.me_laws_refutation.proofs.Splits.{IsSplitTrue, AreSplitsTrue, split_true, no_pseudo}
+use Rattle.me_laws_refutation.specs.SplitsTrue.{IsSplitTrue, AreSplitsTrue}
+use Rattle.me_laws_refutation.proofs.Splits.{split_true, no_pseudo}
 
 module _ (problem : ProblemValue) (valid : IsValid problem) (bounds : Bounds) (context : Context) (sound : IsSound problem bounds context) where
   -- ---- every instance that is added is ground

@@ -1,13 +1,13 @@
 use Rattle.std.proofs.Common.{◌≡◌, ◌+◌, ◌<◌, ◌++◌, [], List, IfErr, rules, sym, subst, ap, ◌∙◌, arith}
+use Rattle.std.specs.List.{All}
 use Rattle.indexmap.specs.IndexSet.{insert_key}
 use Rattle.me_terms.specs.Values.{InstanceValue}
 use Rattle.me_terms.specs.FirstOccurrences.{same_instance}
 use Rattle.me_terms.specs.LeafList.{Demand, demands, IsLeafList}
 use Rattle.me_terms.specs.Measures.{literals_weight, list_weight}
 use Rattle.me_terms.specs.declared.atom.Literal.{Literal}
-use Rattle.me_laws.proofs.Lists.{EachOf}
 use Rattle.me_laws.proofs.OutcomeDetermined.{closing_unique}
-use Rattle.me_laws_refutation.proofs.Demands.{IsRight}
+use Rattle.me_laws_refutation.specs.RightDemands.{IsRight}
 use Rattle.ground_refutation.specs.Queue.{Completes}
 use Rattle.instance_lists.specs.declared.error.ListError.{ListError}
 use Rattle.instance_lists.specs.declared.error.ListError.TheVariants.{TooHeavy}
@@ -59,7 +59,7 @@ returns-clause-underway g c =
     let ls = c.in_ok-closing.closing.literals.items in
     let queue : c.ask_all.new.waiting.items ≡ demands ls ks = c.in_ok-ask_all.ensures ∙ (λ i. c.new-waiting.ensures.items i ++ demands (c.as_slice.ensures i) ((c.deref-2.ensures.value ∙ sym c.deref.ensures.value) i)) in
     let right = closing_rights p c.requires.valid context c.requires.grown c.args.clause tuple c.requires.close ks are ls (c.in_ok-closing.ensures.closing tuple are) in
-    let P : List Demand → Type 0 = λ ds. EachOf (IsRight p context) ds in
+    let P : List Demand → Type 0 = λ ds. All (IsRight p context) ds in
     record { listing = c.in_ok-add.ensures.listing; right = subst P (sym queue) right }
 
 pub returns-clause-completes : goal.returns-clause-completes

@@ -4,14 +4,26 @@ use Rattle.me_terms.specs.Values.{InstanceValue}
 use Rattle.me_terms.specs.FirstOccurrences.{first_occurrences}
 use Rattle.me_terms.specs.LeafList.{Demand, IsLeafList}
 use Rattle.me_terms.specs.Measures.{list_weight}
+use Rattle.me_laws_refutation.specs.RightDemands.{IsRight}
 use Rattle.ground_refutation.specs.Queue.{Completes}
 use Rattle.instance_lists.specs.declared.error.ListError.{ListError}
 use Rattle.instance_lists.specs.declared.error.ListError.TheVariants.{TooHeavy}
-use Rattle.ground_refutation.proofs.Answering.{leaf_exists, none_first}
+use Rattle.ground_refutation.proofs.Answering.{leaf_exists, none_first, first_of, rest_of}
 use Rattle.ground_refutation.proofs.Listing.{distinct_first}
 use Rattle.ground_refutation.proofs.Results.{if_err_map}
 use Rattle.ground_refutation.proofs.Steps.{done}
 use Rattle.ground_refutation.proofs.leaf.instances_of.Goals as goal
+
+pub work-requires-clause-right : goal.work-requires-clause-right
+work-requires-clause-right g c =
+    first_of (IsRight c.args.p.now (g.V.View.context c.args.view.now)) _ _ _ c.in-Some.ensures.items c.loop-demand.invariant.underway.right
+
+pub work-requires-clause-underway : goal.work-requires-clause-underway
+work-requires-clause-underway g c =
+    record {
+      listing = c.loop-demand.invariant.underway.listing;
+      right = rest_of (IsRight c.args.p.now (g.V.View.context c.args.view.now)) _ _ _ c.in-Some.ensures.items c.loop-demand.invariant.underway.right;
+    }
 
 pub work-requires-clause-completes : goal.work-requires-clause-completes
 work-requires-clause-completes g c =
