@@ -24,7 +24,7 @@ total_gathered n (NoMemory ∷ parts) h = absurd h.0
 pub le_true : (a b : ℕ) → a ≤ b → nat_le a b ≡ true
 le_true a b h = elim (leb_tells a b) as (λ _. nat_le a b ≡ true) [ inl x ↦ x.0 | inr x ↦ absurd (omega (arith, x.1, h)) ]
 
-le_false : (a b : ℕ) → b < a → nat_le a b ≡ false
+pub le_false : (a b : ℕ) → b < a → nat_le a b ≡ false
 le_false a b h = elim (leb_tells a b) as (λ _. nat_le a b ≡ false) [ inl x ↦ absurd (omega (arith, x.1, h)) | inr x ↦ x.0 ]
 
 -- the list has each instance once and weighs no more than the bound

@@ -14,7 +14,9 @@ use Rattle.me_laws.proofs.OutcomeDetermined.{outcome_unique}
 use Rattle.branch_core.specs.Parts.{Whole, TooHeavy, listed}
 use Rattle.branch_core.specs.SearchTree.{EachOnce}
 use Rattle.branch_core.proofs.GatheredLists.{le_true}
+use Rattle.instance_lists.specs.Merged.{merged}
 use Rattle.instance_lists.proofs.FirstOccurrences.{first-again, weight-left, weight-right}
+use Rattle.instance_lists.proofs.Joining.{merged_is_joined}
 
 le_false : (a b : ℕ) → b < a → nat_le a b ≡ false
 le_false a b h = elim (leb_tells a b) as (λ _. nat_le a b ≡ false) [ inl x ↦ absurd (omega (arith, x.1, h)) | inr x ↦ x.0 ]
@@ -53,6 +55,18 @@ heavy_behind n list more once e =
     let le = subst P once (weight-right list more) in
     let lt = heavy_is n more e in
     heavy_is_heavy n (joined list more) (omega (arith, le, lt))
+
+-- ---- a list that is merged with the one that follows it
+merged_behind : (n : ℕ) (list more after : List InstanceValue) → EachOnce list → Whole more ≡ listed n after → merged list more ≡ joined list after
+merged_behind n list more after once is = merged_is_joined list more once ∙ ap (joined list) (whole_is n more after is)
+
+pub whole_behind : (n : ℕ) (list more after new : List InstanceValue) → EachOnce list → Whole more ≡ listed n after → new ≡ merged list more → list_weight new ≤ n → Whole new ≡ listed n (joined list after)
+whole_behind n list more after new once is made light =
+    light_is_whole n new light ∙ ap (listed n) (made ∙ merged_behind n list more after once is)
+
+pub merged_heavy : (n : ℕ) (list more after : List InstanceValue) → EachOnce list → Whole more ≡ listed n after → n < list_weight (merged list more) → TooHeavy ≡ listed n (joined list after)
+merged_heavy n list more after once is weighs =
+    heavy_is_heavy n (merged list more) weighs ∙ ap (listed n) (merged_behind n list more after once is)
 
 -- ---- the list of a closed leaf
 pub leaf_once : {problem : ProblemValue} {context : Context} {c : ℕ} {tuple : List ℕ} (list : List InstanceValue) → IsLeafList problem context c tuple list → EachOnce list

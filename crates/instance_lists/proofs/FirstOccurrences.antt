@@ -138,7 +138,7 @@ one_more x (y ∷ ys) q =
       | inr hq ↦ simp hq below
     ]
 
-filter_all : {X : Type 0} (xs : List X) → filter (λ _. true) xs ≡ xs
+pub filter_all : {X : Type 0} (xs : List X) → filter (λ _. true) xs ≡ xs
 filter_all [] = refl
 filter_all (x ∷ xs) = λ i. x ∷ filter_all xs i
 

@@ -2,8 +2,8 @@
 //!
 //! The list that is lent keeps its instances, and those that it lacks follow them.
 ghost use Rattle.std.specs.Prelude.{◌≡◌, ◌+◌, ◌<◌, ◌≤◌, ◌++◌, ◌↔◌, length, IsTrue, OnOk, OnErr, IfErr};
-ghost use Rattle.me_terms.specs.FirstOccurrences.{first_occurrences, joined};
 ghost use Rattle.me_terms.specs.Measures.{list_weight, GREATEST_U64};
+ghost use Rattle.instance_lists.specs.Merged.{merged};
 
 use crate::error::ListError;
 use crate::new_instances::{find_new, keep_marked};
@@ -19,12 +19,10 @@ pub fn merge(
     more: Instances,
     bound: u64,
 ) -> Result<(), ListError>
-    requires once { first_occurrences into.old.items ≡ into.old.items }
     requires bound { bound < GREATEST_U64 }
-    ensures ok { OnOk result (into.new.items ≡ joined into.old.items more.items) }
+    ensures ok { OnOk result (into.new.items ≡ merged into.old.items more.items) }
     ensures light { OnOk result (list_weight into.new.items ≤ bound) }
-    ensures heavy { IfErr result (λ e. e ≡ ListError.TooHeavy → bound < list_weight (joined into.old.items more.items)) }
-    ensures once { first_occurrences into.new.items ≡ into.new.items }
+    ensures heavy { IfErr result (λ e. e ≡ ListError.TooHeavy → bound < list_weight (merged into.old.items more.items)) }
     ensures err { OnErr result (into.new ≡ into.old) }
 {
     let marks = find_new(alloc, into.as_slice(), more.as_slice())?;
