@@ -1,5 +1,5 @@
 -- Neighbours that cannot be joined: among the parts of a tally, and then among the pieces of a portion.
-use Rattle.std.proofs.Common.{◌≡◌, ℕ, false, List, [], ◌∷◌, ◌++◌, map, Option, Some, None, refl, sym, subst}
+use Rattle.std.proofs.Common.{◌≡◌, ℕ, false, List, [], ◌∷◌, ◌++◌, map, Option, Some, None, refl, subst}
 use Rattle.branch_core.specs.Paths.{Turns}
 use Rattle.branch_core.specs.Parts.{PartValue}
 use Rattle.branch_core.specs.Parts as value

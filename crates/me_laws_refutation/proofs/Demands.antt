@@ -7,7 +7,7 @@ use Rattle.me_terms.specs.Substitutions.{Substitution, Family, apply_term, apply
 use Rattle.me_terms.specs.Variables.{variables_of}
 use Rattle.me_terms.specs.Measures.{complement}
 use Rattle.me_terms.specs.Values.{ProblemValue, EntryValue}
-use Rattle.me_terms.specs.Context.{Context, StandsAt, IsAtomWith}
+use Rattle.me_terms.specs.Context.{Context, IsAtomWith}
 use Rattle.me_terms.specs.Positions.{StandsAgainst, AreOpposite}
 use Rattle.me_terms.specs.Unifier.{IsSolvedBy, Solves, unified}
 use Rattle.me_terms.specs.Remainder.{is_variable, is_remaining, remainder}

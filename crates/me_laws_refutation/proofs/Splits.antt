@@ -1,5 +1,5 @@
 -- The split entries that a valuation makes true.
-use Rattle.std.proofs.Common.{◌≡◌, ℕ, Bool, true, ◌⊎◌, inl, inr, sym, subst, ap, ◌∙◌}
+use Rattle.std.proofs.Common.{◌≡◌, Bool, true, ◌⊎◌, inl, inr, sym, subst, ap, ◌∙◌}
 use Rattle.me_terms.specs.Terms.{TermValue, AtomValue}
 use Rattle.me_terms.specs.Substitutions.{apply_atom, IsInstance}
 use Rattle.me_terms.specs.Variables.{are_ground}

@@ -1,4 +1,4 @@
-use Rattle.std.proofs.Common.{◌≡◌, [], map, refl, sym, subst, ap}
+use Rattle.std.proofs.Common.{[], map, refl, sym, subst, ap}
 use Rattle.branch_core.specs.Joined.{as_they_are}
 use Rattle.branch_core.specs.PartViews.{part_value}
 use Rattle.branch_walk.specs.Tallies.{AreClosedOff}
