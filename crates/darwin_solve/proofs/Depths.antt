@@ -1,8 +1,8 @@
 -- A search goes from one depth to the next.
 use Rattle.std.proofs.Common.{◌≡◌, ℕ, zero, suc, ◌<◌, ◌≤◌, ◌+◌, ◌⊎◌, inl, inr, refl, sym, subst, ap, arith}
 use Rattle.me_terms.specs.Values.{ProblemValue}
-use Rattle.me_terms.specs.Answer.{GaveUp, HasAnswer}
-use Rattle.me_terms.specs.Deepening.{at_depth}
+use Rattle.me_terms.specs.Answer.{AnswerValue, GaveUp, HasAnswer}
+use Rattle.me_terms.specs.Deepening.{at_depth, HasAnswerFrom}
 use Rattle.me_terms.specs.declared.bounds.Bound.TheVariants as bound
 use Rattle.me_terms.specs.declared.bounds.Bounds.{Bounds}
 use Rattle.darwin_solve.specs.Deepened.{ComesTo}
@@ -29,3 +29,16 @@ module _ (problem : ProblemValue) (bounds : Bounds) (from : ℕ) where
               | inr at ↦ let P : ℕ → Type 0 = λ d. HasAnswer problem (at_depth bounds d) (GaveUp bound.Depth) in subst P (sym at) met
             ];
       }
+
+  -- a depth that has no next one is the depth at which the search stops
+  pub stops_here : (depth : ℕ) → ComesTo problem bounds from depth → (reply : AnswerValue) → HasAnswer problem (at_depth bounds depth) reply → ((reply ≡ GaveUp bound.Depth) × (depth < bounds.depth) → ⊥) → HasAnswerFrom problem bounds from reply
+  stops_here depth h reply answered no_next = (
+    depth,
+    record {
+      begun = h.begun;
+      within = h.within;
+      earlier = h.earlier;
+      answered = answered;
+      stops = elim (before_or_at depth bounds.depth h.within) as (λ _. ¬ (reply ≡ GaveUp bound.Depth) ⊎ (depth ≡ bounds.depth)) [ inl before ↦ inl (λ met. no_next (met, before)) | inr at ↦ inr at ];
+    },
+  )

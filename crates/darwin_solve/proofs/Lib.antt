@@ -1,4 +1,4 @@
-pub mod AloneAnswers
 pub mod Depths
 pub mod Evidences
 pub mod KnownAnswers
+pub mod WholeAnswers

@@ -1,2 +1,3 @@
 pub mod Deepened
 pub mod Evidence
+pub mod ValidOnce

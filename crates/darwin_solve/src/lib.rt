@@ -1,11 +1,16 @@
-//! The answer to a problem within bounds, on one thread.
+//! The answer to a problem within bounds, on one thread or by a pool of workers.
 //!
-//! The whole tree is walked as one portion, and its record alone decides the answer. With deepening this is
-//! done for one bound of depth after another.
+//! The tree is walked as one portion, or as many by many workers, and the records alone decide the answer,
+//! which is one and the same. With deepening this is done for one bound of depth after another.
 #![tactic(auto)]
 
 mod deepening;
+mod exploration;
+mod explorer;
+mod pool;
 mod solve;
 
-pub use deepening::{deepen_alone, next_depth};
+pub use deepening::{deepen_alone, deepen_pool, next_depth};
+pub use explorer::Explorer;
+pub use pool::solve_pool;
 pub use solve::solve_alone;
