@@ -1,7 +1,8 @@
 //! Literals and clauses as text.
 //!
 //! The literals of a clause are joined by bars, and the empty clause is `$false`.
-ghost use Rattle.std.specs.Prelude.{◌≡◌, ◌++◌, codes, if◌then◌else◌, [], OnOk};
+ghost use Rattle.std.specs.Prelude.{◌≡◌, ◌++◌, codes, if◌then◌else◌, [], OnOk, OnErr};
+ghost use Rattle.std.specs.Io.{StartsWith};
 ghost use Rattle.cnf_text.specs.ClauseText.{literal_text, clause_text, atom_text};
 
 use crate::term::push_atom;
@@ -15,7 +16,8 @@ pub fn push_signed(
     positive: bool,
     atom: &Atom,
 ) -> Result<(), AllocError>
-    ensures { OnOk result (out.new.items ≡ out.old.items ++ literal_text signature.now (record { positive = positive; atom = atom.now })) }
+    ensures ok { OnOk result (out.new.items ≡ out.old.items ++ literal_text signature.now (record { positive = positive; atom = atom.now })) }
+    ensures err { OnErr result (StartsWith out.new.items out.old.items) }
 {
     if !positive {
         out.extend_from_slice(b"~")?;
@@ -29,7 +31,8 @@ pub fn push_clause(
     signature: &Signature,
     literals: &[Literal],
 ) -> Result<(), AllocError>
-    ensures { OnOk result (out.new.items ≡ out.old.items ++ clause_text signature.now literals.now) }
+    ensures ok { OnOk result (out.new.items ≡ out.old.items ++ clause_text signature.now literals.now) }
+    ensures err { OnErr result (StartsWith out.new.items out.old.items) }
 {
     let [first, others @ ..] = literals else {
         return out.extend_from_slice(b"$false");
