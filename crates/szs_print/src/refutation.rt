@@ -2,13 +2,25 @@
 //!
 //! A refutation has one line for each instance of its list, with the number and the label of the clause
 //! that it is an instance of.
-ghost use Rattle.std.specs.Prelude.{◌≡◌, ◌+◌, ◌++◌, decimal, OnOk, IfOk};
-ghost use Rattle.szs_print.specs.RefutationText.{instance_line, instance_lines, refutation_text};
+ghost use Rattle.std.specs.Prelude.{◌≡◌, ◌+◌, ◌++◌, decimal, slice_get, OnOk, IfOk};
+ghost use Rattle.szs_print.specs.RefutationText.{origin_text, instance_line, instance_lines, refutation_text};
 
 use crate::status::{push_output, push_status};
 use cnf_text::{push_clause, push_label, push_number};
 use me_terms::{Instance, Problem};
 use std::alloc::{AllocError, Global};
+
+/// Puts the number and the label of the clause at a place of the problem at the end.
+fn push_origin(out: &mut Vec<u8>, problem: &Problem, clause: u32) -> Result<(), AllocError>
+    ensures { OnOk result (out.new.items ≡ out.old.items ++ origin_text (slice_get problem.now.clauses clause)) }
+{
+    let Some(clause) = problem.clauses.get(u64::from(clause)) else {
+        return Ok(());
+    };
+    push_number(out, u64::from(clause.number))?;
+    out.extend_from_slice(b",")?;
+    push_label(out, &clause.label)
+}
 
 /// Puts the line of the `k`-th instance at the end.
 fn push_instance(
@@ -24,11 +36,7 @@ fn push_instance(
     out.extend_from_slice(b",plain,")?;
     push_clause(out, &problem.signature, instance.literals.as_slice())?;
     out.extend_from_slice(b",instance(")?;
-    if let Some(clause) = problem.clauses.get(u64::from(instance.clause)) {
-        push_number(out, u64::from(clause.number))?;
-        out.extend_from_slice(b",")?;
-        push_label(out, &clause.label)?;
-    }
+    push_origin(out, problem, instance.clause)?;
     out.extend_from_slice(b")).\n")
 }
 
