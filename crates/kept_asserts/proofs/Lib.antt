@@ -1,0 +1,3 @@
+pub mod Opposed
+pub mod Ranked
+pub mod Taken
