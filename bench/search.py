@@ -38,9 +38,9 @@ PROGRAM = os.path.join(TOP, "crates", "darwin", "out", "darwin")
 
 # One run.
 
-# The peak memory of a process counts that of the one it was forked from. So a shell starts it, which is small and ends
-# at once; and this script asks to be the parent of what the shell leaves, so that it can wait for it.
-SHELL = 'ulimit -t "$1"; given=$2; written=$3; shift 3; "$@" < "$given" > "$written" 2> /dev/null & echo $!'
+# The peak memory of a process counts that of the one it was forked from. So a shell starts it, which is small and goes
+# away at once, by exec, since it might wait for the process else; and this script asks to be the parent of what it leaves.
+SHELL = 'ulimit -t "$1"; given=$2; written=$3; shift 3; "$@" < "$given" > "$written" 2> /dev/null & exec echo $!'
 SET_CHILD_SUBREAPER = 36
 ctypes.CDLL(None).prctl(SET_CHILD_SUBREAPER, 1)
 
