@@ -64,7 +64,7 @@ def signs(size):
 
 @family([3, 4, 5, 6, 7, 8, 9], UNSATISFIABLE)
 def pigeons(size):
-    """`size` pigeons sit in one hole less, no two in one. Unsatisfiable; refutations by splits have `size`! leaves or so."""
+    """`size` pigeons sit in one hole less, no two in one. Refuting it by splits takes about (`size` - 1)! leaves."""
     for pigeon in range(size):
         yield any_of(f"at(p{pigeon},h{hole})" for hole in range(size - 1))
     for hole in range(size - 1):
@@ -175,11 +175,9 @@ def zebras(size):
             yield any_of([f"~at({one},h{at})", *(f"at({other},h{it})" for it in (at - 1, at + 1) if 0 <= it < size)])
 
 
-def random_clauses(name, size, term):
-    """Six clauses a predicate, each of three literals of two arguments."""
-    draw = seeded(name, size)
-    for _ in range(6 * size):
-        yield any_of(f"{draw.choice(['', '~'])}p{draw.randrange(size)}({term(draw)},{term(draw)})" for _ in range(3))
+def random_clause(draw, predicates, literals, term):
+    """So many literals of two arguments each."""
+    return any_of(f"{draw.choice(['', '~'])}p{draw.randrange(predicates)}({term(draw)},{term(draw)})" for _ in range(literals))
 
 
 def plain_term(draw):
@@ -192,14 +190,20 @@ def deep_term(draw):
 
 @family([3, 4, 6, 8, 10, 12, 14, 16])
 def function_free(size):
-    """Random clauses over `size` predicates, each argument one of three variables or two constants."""
-    return random_clauses("function_free", size, plain_term)
+    """Random clauses over `size` predicates, seven a predicate, of three literals. An argument is one of three variables
+    or two constants."""
+    draw = seeded("function_free", size)
+    for _ in range(7 * size):
+        yield random_clause(draw, size, 3, plain_term)
 
 
-@family([3, 4, 5, 6, 7, 8, 9, 10])
+@family([4, 6, 8, 10, 12, 15, 20])
 def functions(size):
-    """The same with a function at every fourth term. There may be a model, and none within the depth."""
-    return random_clauses("functions", size, deep_term)
+    """The same with a function at every fourth term, five clauses a predicate, of two or three literals. A model may need
+    more depth than the program is given."""
+    draw = seeded("functions", size)
+    for _ in range(5 * size):
+        yield random_clause(draw, size, draw.randint(2, 3), deep_term)
 
 
 def main():
