@@ -192,7 +192,7 @@ def parsed():
 def main():
     options, rows, is_wrong = parsed(), [], False
     heads = [f"{it}: s, {'clock, ' if options.workers else ''}MB" for it in columns(options, FAMILIES[options.families[0]])]
-    print(line_of("family", "size", heads, options), flush=True)
+    print(line_of("family", "size", heads, options).rstrip(), flush=True)
     for name in options.families:
         for size in options.sizes or FAMILIES[name].sizes:
             runs = runs_of(options, name, size)
