@@ -87,7 +87,8 @@ def colourings(size):
     draw = seeded("colourings", size)
     for vertex in range(size):
         yield any_of(f"{colour}(v{vertex})" for colour in ("red", "green", "blue"))
-    for one, other in draw.sample(list(itertools.combinations(range(size), 2)), round(2.5 * size)):
+    pairs = list(itertools.combinations(range(size), 2))
+    for one, other in draw.sample(pairs, min(round(2.5 * size), len(pairs))):
         for colour in ("red", "green", "blue"):
             yield f"~{colour}(v{one})|~{colour}(v{other})"
 
@@ -143,7 +144,7 @@ def colourable(size):
     yield "~vertex(V)|red(V)|green(V)|blue(V)"
     yield from (f"~edge(V,W)|~{colour}(V)|~{colour}(W)" for colour in ("red", "green", "blue"))
     yield from (f"vertex(v{vertex})" for vertex in range(size))
-    yield from (f"edge(v{one},v{other})" for one, other in draw.sample(pairs, 2 * size))
+    yield from (f"edge(v{one},v{other})" for one, other in draw.sample(pairs, min(2 * size, len(pairs))))
 
 
 @family([2, 3, 4, 5, 6, 7, 8], SATISFIABLE)
