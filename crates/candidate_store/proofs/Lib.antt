@@ -1,0 +1,12 @@
+pub mod Asserted
+pub mod Chosen
+pub mod Closed
+pub mod Collected
+pub mod Framed
+pub mod MetKeys
+pub mod Pivotal
+pub mod Unpaired
+pub mod Wholes
+pub mod United
+pub mod Found
+pub mod Stored

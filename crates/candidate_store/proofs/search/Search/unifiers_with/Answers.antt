@@ -1,0 +1,25 @@
+use Rattle.candidate_store.proofs.Collected.{keeps_on, unifiers_more, unifiers_whole}
+use Rattle.candidate_store.proofs.Wholes.{unifiers_all, place_clause_at}
+use Rattle.candidate_store.proofs.search.Search.unifiers_with.Goals as goal
+
+pub loop-at-preserved : goal.loop-at-preserved
+loop-at-preserved g c =
+    let i = c.loop-at.invariant in
+    let keeps = c.in_ok-keys.ensures.kept in
+    record {
+      kept = keeps_on c.args.keys.items c.loop-at.keys.items c.in_ok-keys.keys.items i.kept keeps;
+      held = unifiers_more c.args.self.now.problem.now c.args.self.now.bounds.now (g.V.View.context c.args.self.now.view.now) c.places_of-places.result.now c.loop-at.at-index c.args.pivot _ c.loop-at.keys.items c.in_ok-keys.keys.items c.loop-at-test.true keeps i.held c.in_ok-keys.ensures.added;
+    }
+
+pub unifiers_at-requires-clause-clause : goal.unifiers_at-requires-clause-clause
+unifiers_at-requires-clause-clause g c =
+    place_clause_at c.args.self.now.problem.now (g.V.View.context c.args.self.now.view.now) c.args.self.now.pairs.now c.requires.pairs c.args.pivot c.requires.literal c.places_of-places.result.now c.places_of-places.ensures c.loop-at.at-index _ c.requires.within c.loop-at-test.true
+
+pub returns-clause-added : goal.returns-clause-added
+returns-clause-added g c =
+    let problem = c.args.self.now.problem.now in
+    let bounds = c.args.self.now.bounds.now in
+    let context = g.V.View.context c.args.self.now.view.now in
+    let qs = c.places_of-places.result.now in
+    unifiers_all problem context c.args.self.now.pairs.now c.requires.pairs c.args.pivot c.requires.literal qs c.places_of-places.ensures bounds c.loop-at.keys.items
+    (unifiers_whole problem bounds context qs c.loop-at.at-index c.args.pivot c.loop-at.keys.items c.loop-at-test.false c.loop-at.invariant.held)

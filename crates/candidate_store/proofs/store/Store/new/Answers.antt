@@ -1,0 +1,15 @@
+use Rattle.std.proofs.Common.{◌≡◌, ◌<◌, true, false, refl, sym, ◌∙◌, arith}
+use Rattle.candidate_store.proofs.Framed.{start_frames}
+use Rattle.candidate_store.proofs.store.Store.new.Goals as goal
+
+pub returns : goal.returns
+returns c = record {
+  same_bounds = refl;
+  kept = record {
+    some = omega arith;
+    hiding = c.in_ok-hiding.ensures _;
+    pairs = c.in_ok-pairs.ensures _;
+    frames = start_frames c.args.problem.now c.args.bounds.now _ _ _ c.in_ok-frames.ensures.items c.in_ok-step.ensures refl;
+    asserts = λ fresh. cc fresh;
+  };
+}
