@@ -1,6 +1,5 @@
 -- The steps of the search for the Asserts of a place.
-use Rattle.std.proofs.Common.{◌≡◌, ℕ, ◌<◌, ◌≤◌, ◌⊎◌, inl, inr, List, [], ◌∷◌, ◌++◌, length, Option, Some, None, refl, sym, subst, ap, ◌∙◌, arith}
-use Rattle.std.specs.Prelude.{IfSome, IfNone}
+use Rattle.std.proofs.Common.{◌≡◌, ℕ, ◌≤◌, inl, inr, List, [], ◌∷◌, ◌++◌, Option, Some, None, sym, subst, ap, ◌∙◌, arith}
 use Rattle.std.specs.List.{Contains}
 use Rattle.std.proofs.lemmas.Option.{same_Some}
 use Rattle.std.proofs.lemmas.List.Elements.{Contains-push}
@@ -10,18 +9,18 @@ use Rattle.me_terms.specs.Unifier.{unified}
 use Rattle.me_terms.specs.Context.{Context}
 use Rattle.me_terms.specs.Positions.{ClauseAt}
 use Rattle.me_terms.specs.Assert.{IsAssert}
-use Rattle.me_terms.specs.Order.{pattern_weight, assert_key}
+use Rattle.me_terms.specs.Order.{assert_key}
 use Rattle.me_terms.specs.declared.bounds.Bounds.{Bounds}
 use Rattle.me_terms.specs.declared.atom.Literal.{Literal}
 use Rattle.me_laws.proofs.Determined.{clause_same, assert_determined}
 use Rattle.joint_unifiers.proofs.CanonicalMeasures.{canonical_weight}
 use Rattle.tuple_search.specs.declared.limits.Limits.{Limits}
 use Rattle.tuple_search.specs.declared.limits.Pivot.{Pivot}
-use Rattle.tuple_search.specs.Enumeration.{IsLater, HasPivot, IsWithinCursorLimits, HasUnifier, IsNextTuple, IsLastTuple}
+use Rattle.tuple_search.specs.Enumeration.{IsLater, HasPivot, IsWithinCursorLimits, HasUnifier, IsLastTuple}
 use Rattle.tuple_search.specs.Cursors.{CursorValue}
 use Rattle.next_rule.proofs.Cursors.{IsCursor, Advances}
 use Rattle.next_rule.proofs.Sizes.{none_within}
-use Rattle.next_rule.proofs.Tuples.{later_decided, passed_or_here}
+use Rattle.next_rule.proofs.Tuples.{passed_or_here}
 use Rattle.candidate_keys.specs.Keys.{AssertKeyValue, assert_code, HasCode}
 use Rattle.candidate_store.specs.Searches.{Keeps, HoldsAssertsIn, ByPlace}
 use Rattle.candidate_store.proofs.Collected.{keeps_on, keeps_push}

@@ -1,7 +1,7 @@
 -- The keys of productive unifiers, and the step that the first one gives.
-use Rattle.std.proofs.Common.{◌≡◌, ℕ, ◌<◌, ◌⊎◌, inl, inr, List, [], ◌∷◌, ◌++◌, length, slice_get, Option, Some, None, refl, sym, subst, ap, ◌∙◌, arith}
+use Rattle.std.proofs.Common.{◌≡◌, ℕ, inl, inr, List, [], ◌∷◌, ◌++◌, length, slice_get, Option, Some, None, refl, sym, subst, ap, ◌∙◌, arith}
 use Rattle.me_terms.specs.Substitutions.{Family}
-use Rattle.me_terms.specs.Measures.{literal_weight, canonical_literal}
+use Rattle.me_terms.specs.Measures.{canonical_literal}
 use Rattle.me_terms.specs.Values.{ProblemValue, ClauseValue}
 use Rattle.me_terms.specs.Context.{Context}
 use Rattle.me_terms.specs.Unifier.{unified}
@@ -10,8 +10,7 @@ use Rattle.me_terms.specs.Assert.{HasAssert}
 use Rattle.me_terms.specs.Productive.{IsProductiveUnifier}
 use Rattle.me_terms.specs.Split.{IsSplit, HasSplit, split_kind}
 use Rattle.me_terms.specs.Order.{Precedes, clause_key, split_key, IsLeastSplit}
-use Rattle.me_terms.specs.Next.{NextValue, Split, Bounded, HasRoom, IsNext}
-use Rattle.me_terms.specs.declared.bounds.Bound.TheVariants as bound
+use Rattle.me_terms.specs.Next.{NextValue, IsNext}
 use Rattle.me_terms.specs.declared.bounds.Bounds.{Bounds}
 use Rattle.me_terms.specs.declared.atom.Literal.{Literal}
 use Rattle.me_laws_increments.proofs.FirstUnfit.{remains, least_is_first_remaining}
@@ -20,9 +19,9 @@ use Rattle.joint_unifiers.specs.ClauseUnifiers.{UnifierValue, IsUnifierOf}
 use Rattle.split_rule.specs.declared.choice.SplitChoice.{SplitChoice}
 use Rattle.split_rule.specs.SplitChoices.{IsByRule, IsRuleChoice}
 use Rattle.next_rule.proofs.NextSteps.{bound_met, full_for_split}
-use Rattle.candidate_keys.specs.Keys.{UnifierKeyValue, code_by, unifier_code}
+use Rattle.candidate_keys.specs.Keys.{code_by}
 use Rattle.candidate_store.specs.Kept.{IsKeyOf}
-use Rattle.candidate_store.specs.Firsts.{fit_of, GivesStep, IsBelow, IsBelowAll}
+use Rattle.candidate_store.specs.Firsts.{fit_of, GivesStep, IsBelowAll}
 
 -- ---- lists of numbers that begin alike
 same_first : (n : ℕ) (xs ys : List ℕ) → Precedes xs ys → Precedes (n ∷ xs) (n ∷ ys)

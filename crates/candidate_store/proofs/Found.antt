@@ -10,7 +10,6 @@ use Rattle.me_terms.specs.Unifier.{IsUnifier, IsContextUnifier}
 use Rattle.me_terms.specs.Close.{HasClose}
 use Rattle.me_terms.specs.Assert.{HasAssert}
 use Rattle.me_terms.specs.Productive.{IsProductive, IsProductiveUnifier}
-use Rattle.me_terms.specs.Order.{Precedes}
 use Rattle.me_terms.specs.declared.bounds.Bounds.{Bounds}
 use Rattle.me_laws.proofs.Determined.{clause_same}
 use Rattle.joint_unifiers.specs.ClauseUnifiers.{UnifierValue, IsUnifierOf}
@@ -22,7 +21,7 @@ use Rattle.next_rule.proofs.SplitLooks.{found_unifying}
 use Rattle.next_rule.proofs.Answers.{is_so, not_so}
 use Rattle.candidate_keys.specs.Keys.{UnifierKeyValue, code_by, unifier_code}
 use Rattle.candidate_store.specs.Kept.{IsKeyOf}
-use Rattle.candidate_store.specs.Firsts.{fit_of, FoundValue, GivesStep, IsBelowAll, IsFound, IsBest, IsMet, IsProductiveOf}
+use Rattle.candidate_store.specs.Firsts.{fit_of, FoundValue, GivesStep, IsBelowAll, IsFound, IsMet, IsProductiveOf}
 use Rattle.candidate_store.proofs.Chosen.{chosen_key, found_next}
 use Rattle.candidate_store.proofs.MetKeys.{key_below}
 

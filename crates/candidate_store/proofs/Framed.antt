@@ -1,20 +1,15 @@
 -- What the frames keep as an entry comes or goes.
-use Rattle.std.proofs.Common.{◌≡◌, ℕ, zero, suc, ◌+◌, ◌<◌, ◌≤◌, ◌⊎◌, inl, inr, List, [], ◌∷◌, ◌++◌, length, take, slice_get, Some, None, refl, sym, subst, ap, ◌∙◌, arith}
+use Rattle.std.proofs.Common.{◌≡◌, ℕ, zero, suc, ◌<◌, ◌≤◌, ◌⊎◌, inl, inr, List, [], ◌∷◌, ◌++◌, length, take, slice_get, Some, refl, sym, subst, arith}
 use Rattle.std.specs.List.{Contains}
 use Rattle.std.proofs.lemmas.Bool.{cases_lt}
 use Rattle.std.proofs.lemmas.Option.{same_Some, none-some, slice_get_within, slice_get_read}
 use Rattle.std.proofs.lemmas.List.{take-append-le, take_all, length_push}
-use Rattle.me_terms.specs.Substitutions.{Family}
-use Rattle.me_terms.specs.Values.{ProblemValue, ClauseValue, EntryValue}
+use Rattle.me_terms.specs.Values.{ProblemValue, EntryValue}
 use Rattle.me_terms.specs.Context.{Context, add}
-use Rattle.me_terms.specs.Positions.{positions_of}
-use Rattle.me_terms.specs.Remainder.{remainder}
 use Rattle.me_terms.specs.Close.{HasClose}
-use Rattle.me_terms.specs.Productive.{IsProductiveUnifier}
 use Rattle.me_terms.specs.Next.{IsNext}
 use Rattle.me_terms.specs.declared.bounds.Bounds.{Bounds}
 use Rattle.me_laws_increments.specs.Tuples.{IsWithin}
-use Rattle.me_laws_increments.specs.Pivots.{IsPivot}
 use Rattle.me_laws_increments.proofs.Pivots.{exists}
 use Rattle.me_laws_increments.proofs.Candidates.{old_productive_unifiers, old_splits}
 use Rattle.entry_hiding.proofs.Marks.{push_old, push_end, push_cases}

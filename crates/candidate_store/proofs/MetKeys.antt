@@ -1,5 +1,5 @@
 -- The first of the unifiers that were found, as one after another is looked at.
-use Rattle.std.proofs.Common.{◌≡◌, ◌≤◌, ◌+◌, ℕ, zero, suc, ◌<◌, ◌⊎◌, inl, inr, List, [], ◌∷◌, ◌++◌, length, get_or, take, slice_get, Option, Some, None, refl, sym, subst, ap, ◌∙◌, arith}
+use Rattle.std.proofs.Common.{◌≡◌, ◌≤◌, ◌+◌, ℕ, zero, suc, ◌<◌, inl, inr, List, [], ◌∷◌, ◌++◌, length, get_or, take, slice_get, Option, Some, None, refl, sym, subst, ap, ◌∙◌, arith}
 use Rattle.std.specs.Prelude.{IfSome}
 use Rattle.std.specs.List.{Contains}
 use Rattle.std.proofs.lemmas.Bool.{cases_lt}
@@ -9,17 +9,17 @@ use Rattle.std.proofs.lemmas.List.Elements.{Contains-push_cases}
 use Rattle.me_terms.specs.Substitutions.{Family}
 use Rattle.me_terms.specs.Values.{ProblemValue, ClauseValue}
 use Rattle.me_terms.specs.Context.{Context}
-use Rattle.me_terms.specs.Productive.{IsProductiveUnifier, HasProductive}
+use Rattle.me_terms.specs.Productive.{IsProductiveUnifier}
 use Rattle.me_terms.specs.Close.{HasClose}
 use Rattle.me_terms.specs.Assert.{HasAssert}
-use Rattle.me_terms.specs.Next.{NextValue, Exhausted, IsNext}
+use Rattle.me_terms.specs.Next.{Exhausted, IsNext}
 use Rattle.me_terms.specs.Order.{Precedes, split_key}
 use Rattle.me_terms.specs.declared.bounds.Bounds.{Bounds}
 use Rattle.me_laws_existence.proofs.Best.{precedes_itself, precedes_transitive, precedes_total}
 use Rattle.candidate_keys.specs.declared.unifier_key.Fit.{Fit}
 use Rattle.candidate_keys.specs.Keys.{UnifierKeyValue, code_by, unifier_code}
 use Rattle.candidate_store.specs.Kept.{IsKeyOf, FrameValue}
-use Rattle.candidate_store.specs.Firsts.{FoundValue, IsBelow, IsBelowAll, IsFound, IsBest, IsMet, AreMet, AreAllMet, MeetsMore, HaveAll, IsFirstOfTwo, IsFirstFound}
+use Rattle.candidate_store.specs.Firsts.{FoundValue, IsBelow, IsFound, IsBest, IsMet, AreMet, AreAllMet, MeetsMore, HaveAll, IsFirstOfTwo, IsFirstFound}
 
 code_before_unfit : (fit : Option Fit) (c : ℕ) (tuple : List ℕ) → Precedes (code_by fit c tuple) (1 ∷ c ∷ tuple)
 code_before_unfit (Some fit) c tuple = inl (omega arith)

@@ -1,12 +1,12 @@
 -- The places at which the pivots of candidates stand.
-use Rattle.std.proofs.Common.{◌≡◌, ℕ, ◌+◌, ◌-◌, ◌<◌, ◌≤◌, Bool, true, false, ltb, List, [], length, get_or, slice_get, Option, Some, None, refl, sym, subst, ap, ◌∙◌, arith}
+use Rattle.std.proofs.Common.{◌≡◌, ℕ, ◌+◌, ◌<◌, Bool, true, false, ltb, List, [], get_or, slice_get, Option, Some, None, refl, sym, subst, ◌∙◌, arith}
 use Rattle.std.specs.List.{Contains}
 use Rattle.std.proofs.lemmas.Bool.{ltb-true, ltb-false, le-ltb}
 use Rattle.std.proofs.lemmas.Option.{slice_get_within}
 use Rattle.me_terms.specs.Terms.{AtomValue}
 use Rattle.me_terms.specs.Substitutions.{Substitution, Family}
 use Rattle.me_terms.specs.Values.{ProblemValue, ClauseValue, EntryValue}
-use Rattle.me_terms.specs.Context.{Context, StandsAt, IsContext}
+use Rattle.me_terms.specs.Context.{Context}
 use Rattle.me_terms.specs.Contradictory.{Unifiable}
 use Rattle.me_terms.specs.Positions.{ClauseAt, positions_of}
 use Rattle.me_terms.specs.Unifier.{IsSolvedBy, IsContextUnifier}
@@ -14,7 +14,6 @@ use Rattle.me_terms.specs.Close.{IsClose}
 use Rattle.me_terms.specs.Assert.{IsAssert}
 use Rattle.me_terms.specs.Productive.{IsProductiveUnifier}
 use Rattle.me_terms.specs.declared.bounds.Bounds.{Bounds}
-use Rattle.me_terms.specs.declared.atom.Literal.{Literal}
 use Rattle.me_terms.specs.declared.atom.Pattern.{Pattern}
 use Rattle.me_terms.specs.declared.atom.Pattern.TheVariants.{Any, Of}
 use Rattle.me_laws_increments.specs.Pairs.{IsPair}
@@ -25,7 +24,7 @@ use Rattle.clause_pairs.specs.Values.{PairsValue}
 use Rattle.clause_pairs.specs.Pairs.{ArePairs}
 use Rattle.tuple_search.specs.Targets.{unskipped_place}
 use Rattle.tuple_search.proofs.Unifiers.{position_there}
-use Rattle.candidate_store.specs.Searches.{Region, At, AssertsAt, index_of}
+use Rattle.candidate_store.specs.Searches.{At, AssertsAt, index_of}
 
 solved_unifies : (s t : Substitution) (p : Pattern) (a : AtomValue) → IsSolvedBy s p t a → Unifiable p (Of a)
 solved_unifies s t Any a h = tt

@@ -1,8 +1,8 @@
 -- What is kept as the last entry comes and goes.
-use Rattle.std.proofs.Common.{◌≡◌, ℕ, zero, suc, ◌+◌, ◌-◌, ◌<◌, ◌≤◌, ◌⊎◌, inl, inr, Bool, true, false, not, List, [], ◌∷◌, ◌++◌, length, get_or, take, slice_get, Option, Some, None, refl, sym, subst, ap, ◌∙◌, arith}
+use Rattle.std.proofs.Common.{◌≡◌, ℕ, ◌+◌, ◌-◌, ◌<◌, ◌≤◌, Bool, true, false, not, List, [], ◌∷◌, ◌++◌, length, take, slice_get, Some, refl, sym, subst, ap, ◌∙◌, arith}
 use Rattle.std.specs.Prelude.{Result, Ok, Err, OnErr}
 use Rattle.std.proofs.lemmas.Option.{get_or_from_slice_get, slice_get_within}
-use Rattle.std.proofs.lemmas.List.{take_more, take_all, take-take, length-take-le, length_push}
+use Rattle.std.proofs.lemmas.List.{take_more, take-take, length-take-le, length_push}
 use Rattle.me_terms.specs.Values.{ProblemValue, EntryValue}
 use Rattle.me_terms.specs.Context.{Context, add}
 use Rattle.me_terms.specs.Next.{NextValue, IsNext}

@@ -1,7 +1,5 @@
 -- The steps of the search for the productive unifiers with a pivot.
-use Rattle.std.proofs.Common.{◌≡◌, ℕ, zero, suc, ◌+◌, ◌<◌, ◌≤◌, ◌⊎◌, inl, inr, List, [], ◌∷◌, ◌++◌, length, slice_get, Option, Some, None, refl, sym, subst, ap, ◌∙◌, arith}
-use Rattle.std.specs.Prelude.{IfSome, IfNone}
-use Rattle.std.specs.List.{Contains}
+use Rattle.std.proofs.Common.{◌≡◌, ℕ, zero, suc, ◌+◌, ◌<◌, ◌≤◌, ◌⊎◌, inl, inr, List, [], ◌∷◌, ◌++◌, length, Option, Some, None, refl, sym, subst, ◌∙◌, arith}
 use Rattle.std.proofs.lemmas.Bool.{cases_lt}
 use Rattle.std.proofs.lemmas.Option.{same_Some, none-some, slice_get_within}
 use Rattle.std.proofs.lemmas.List.Elements.{Contains-push}
@@ -15,8 +13,7 @@ use Rattle.me_laws.proofs.Determined.{clause_same}
 use Rattle.me_laws_increments.specs.Pivots.{IsPivot}
 use Rattle.me_laws_increments.proofs.Places.{there}
 use Rattle.tuple_search.specs.declared.limits.Limits.{Limits}
-use Rattle.tuple_search.specs.declared.limits.Pivot.{Pivot}
-use Rattle.tuple_search.specs.Enumeration.{IsLater, IsWithinCursorLimits, HasUnifier, IsNextTuple, IsLastTuple}
+use Rattle.tuple_search.specs.Enumeration.{IsLater, HasUnifier, IsLastTuple}
 use Rattle.tuple_search.specs.Cursors.{CursorValue}
 use Rattle.tuple_search.proofs.Unifiers.{position_there}
 use Rattle.next_rule.proofs.Cursors.{IsCursor, Advances}

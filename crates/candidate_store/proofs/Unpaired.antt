@@ -1,33 +1,31 @@
 -- Places against whose literals no entry stands, and the lists of those that do.
-use Rattle.std.proofs.Common.{◌≡◌, ℕ, ◌+◌, ◌<◌, ◌≤◌, ◌⊎◌, inl, inr, Bool, true, false, not, List, [], ◌∷◌, ◌++◌, length, take, get_or, map, slice_get, Option, Some, None, refl, sym, subst, ap, ◌∙◌, arith}
+use Rattle.std.proofs.Common.{◌≡◌, ℕ, ◌+◌, ◌<◌, ◌≤◌, ◌⊎◌, inl, inr, Bool, true, false, not, List, [], ◌∷◌, ◌++◌, length, take, get_or, slice_get, Option, Some, None, refl, sym, subst, ap, ◌∙◌, arith}
 use Rattle.std.specs.List.{Contains}
 use Rattle.std.specs.declared.vec.Vec.{Vec}
 use Rattle.std.specs.declared.alloc.Global.{Global}
 use Rattle.std.specs.List.Sorted.{IsNonDecreasing}
 use Rattle.std.proofs.lemmas.Bool.{cases_lt}
-use Rattle.std.proofs.lemmas.Option.{same_Some, slice_get_within, slice_get-get_or, slice_get_read, get_or_from_slice_get}
+use Rattle.std.proofs.lemmas.Option.{slice_get_within, slice_get-get_or, get_or_from_slice_get}
 use Rattle.std.proofs.lemmas.List.{length-map, get_or-map, map_push, map_more, take_all}
-use Rattle.me_terms.specs.Substitutions.{Family}
 use Rattle.me_terms.specs.Sequences.{SequenceValue}
 use Rattle.me_terms.specs.Values.{ProblemValue, ClauseValue, EntryValue}
 use Rattle.me_terms.specs.Context.{Context, IsContext, StandsAt}
 use Rattle.me_terms.specs.Positions.{ClauseAt}
 use Rattle.me_terms.specs.Close.{IsClose}
 use Rattle.me_terms.specs.Assert.{IsAssert}
-use Rattle.me_terms.specs.Productive.{IsProductiveUnifier}
 use Rattle.me_terms.specs.declared.bounds.Bounds.{Bounds}
 use Rattle.me_terms.specs.declared.atom.Literal.{Literal}
 use Rattle.me_laws.proofs.Determined.{clause_same}
 use Rattle.me_laws_increments.proofs.Places.{there}
-use Rattle.me_laws_increments.specs.Pairs.{IsPair, HasPair, HasLiteralPair}
+use Rattle.me_laws_increments.specs.Pairs.{HasLiteralPair}
 use Rattle.me_laws_increments.proofs.Pairs.{close_needs_pairs, assert_needs_pairs, productive_needs_pairs}
 use Rattle.tuple_search.specs.declared.limits.Pivot.{Pivot}
-use Rattle.tuple_search.specs.Partners.{IsPartner, IsListed, ArePartners}
+use Rattle.tuple_search.specs.Partners.{ArePartners}
 use Rattle.clause_pairs.specs.declared.clause_place.ClausePlace.{ClausePlace}
 use Rattle.clause_pairs.specs.Lists.{IsRising, HasPlace, list_at}
 use Rattle.clause_pairs.specs.Meetings.{LiteralAt}
 use Rattle.clause_pairs.specs.Values.{PairsValue, numbers_of}
-use Rattle.clause_pairs.specs.Pairs.{PairsAt, ArePairs}
+use Rattle.clause_pairs.specs.Pairs.{ArePairs}
 use Rattle.candidate_keys.specs.Keys.{AssertKeyValue, UnifierKeyValue}
 use Rattle.candidate_store.specs.Searches.{At, FoundClose, ByPlace, HoldsAssertsIn, HaveUnifiersIn, HasNone, HasUnmet, items_of}
 

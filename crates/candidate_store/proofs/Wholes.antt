@@ -1,16 +1,14 @@
 -- What searches for a pivot find, over all places at which it stands.
-use Rattle.std.proofs.Common.{◌≡◌, ℕ, zero, suc, ◌+◌, ◌-◌, ◌<◌, ◌≤◌, ◌⊎◌, inl, inr, Bool, true, List, [], ◌∷◌, ◌++◌, length, get_or, take, slice_get, Option, Some, None, refl, sym, subst, ap, ◌∙◌, arith}
+use Rattle.std.proofs.Common.{◌≡◌, ℕ, zero, suc, ◌+◌, ◌-◌, ◌<◌, inl, inr, Bool, true, List, [], ◌∷◌, ◌++◌, length, get_or, take, slice_get, Option, Some, None, refl, sym, subst, ap, ◌∙◌, arith}
 use Rattle.std.specs.List.{Contains}
 use Rattle.std.proofs.lemmas.List.{take_more, take_all, length_push}
 use Rattle.std.proofs.lemmas.List.Elements.{Contains-get_or}
 use Rattle.std.proofs.lemmas.Option.{get_or_from_slice_get, slice_get_within}
-use Rattle.me_terms.specs.Substitutions.{Family}
-use Rattle.me_terms.specs.Values.{ProblemValue, ClauseValue, EntryValue}
+use Rattle.me_terms.specs.Values.{ProblemValue, EntryValue}
 use Rattle.me_terms.specs.Context.{Context, add}
 use Rattle.me_terms.specs.Close.{IsClose, HasClose}
-use Rattle.me_terms.specs.Assert.{IsAssert, HasAssert}
-use Rattle.me_terms.specs.Productive.{IsProductiveUnifier}
-use Rattle.me_terms.specs.Order.{Precedes, clause_key, assert_key, IsLeastClose}
+use Rattle.me_terms.specs.Assert.{IsAssert}
+use Rattle.me_terms.specs.Order.{assert_key, IsLeastClose}
 use Rattle.me_terms.specs.Next.{NextValue, IsNext}
 use Rattle.me_terms.specs.declared.bounds.Bounds.{Bounds}
 use Rattle.me_laws_increments.specs.Pivots.{IsPivot, HasLaterPivot}
@@ -21,8 +19,8 @@ use Rattle.clause_pairs.specs.Values.{PairsValue}
 use Rattle.clause_pairs.specs.Pairs.{ArePairs}
 use Rattle.candidate_keys.specs.Keys.{AssertKeyValue, HasCode, UnifierKeyValue}
 use Rattle.kept_asserts.specs.Held.{HoldsAsserts}
-use Rattle.candidate_store.specs.Kept.{IsKeyOf, FrameValue, HoldUnifiers, IsFrame, AreFrames, IsSettled}
-use Rattle.candidate_store.specs.Searches.{Region, At, WithPivot, PivotFrom, AssertsAt, ClosingValue, FoundClose, Keeps, HoldsAssertsIn, HaveUnifiersIn}
+use Rattle.candidate_store.specs.Kept.{FrameValue, HoldUnifiers, IsFrame, AreFrames, IsSettled}
+use Rattle.candidate_store.specs.Searches.{WithPivot, PivotFrom, ClosingValue, FoundClose, Keeps, HoldsAssertsIn, HaveUnifiersIn}
 use Rattle.candidate_store.specs.Firsts.{HaveAll}
 use Rattle.candidate_store.proofs.Collected.{AtSome, AssertsAtSome}
 use Rattle.candidate_store.proofs.Pivotal.{close_place, assert_place, productive_place}

@@ -1,5 +1,5 @@
 -- The first of the unifiers that were found.
-use Rattle.std.specs.Prelude.{◌≡◌, ℕ, List, [], ◌∷◌, slice_get, Option, Some, None, IfSome, ◌⊎◌}
+use Rattle.std.specs.Prelude.{◌≡◌, ℕ, List, ◌∷◌, slice_get, Option, Some, None, IfSome, ◌⊎◌}
 use Rattle.std.specs.List.{Contains}
 use Rattle.me_terms.specs.Substitutions.{Family}
 use Rattle.me_terms.specs.Values.{ProblemValue, ClauseValue}

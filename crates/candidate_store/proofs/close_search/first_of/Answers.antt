@@ -1,4 +1,3 @@
-use Rattle.std.proofs.Common.{◌≡◌, Option, None, Some, sym, subst}
 use Rattle.candidate_store.proofs.Closed.{first_kept, first_only, first_two}
 use Rattle.candidate_store.proofs.close_search.first_of.Goals as goal
 

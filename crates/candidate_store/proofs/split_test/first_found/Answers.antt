@@ -1,5 +1,3 @@
-use Rattle.std.proofs.Common.{◌≡◌, Option, None, Some, sym, subst}
-use Rattle.candidate_store.specs.Firsts.{FoundValue, IsFirstFound}
 use Rattle.candidate_store.proofs.MetKeys.{first_kept, first_only, first_two}
 use Rattle.candidate_store.proofs.split_test.first_found.Goals as goal
 

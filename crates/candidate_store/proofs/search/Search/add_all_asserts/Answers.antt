@@ -1,4 +1,4 @@
-use Rattle.std.proofs.Common.{◌≡◌, ◌≤◌, ℕ, length, ap, arith}
+use Rattle.std.proofs.Common.{length, ap, arith}
 use Rattle.me_terms.specs.Values.{ProblemValue}
 use Rattle.candidate_store.proofs.Collected.{in_more, in_all}
 use Rattle.candidate_store.proofs.search.Search.add_all_asserts.Goals as goal

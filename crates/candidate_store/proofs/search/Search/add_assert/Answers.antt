@@ -1,5 +1,3 @@
-use Rattle.std.proofs.Common.{◌≡◌, List}
-use Rattle.std.specs.Prelude.{OnOk}
 use Rattle.clause_pairs.proofs.Rows.{on_ok}
 use Rattle.kept_asserts.proofs.Ranked.{where_none, where_some}
 use Rattle.candidate_store.proofs.Asserted.{key_added, key_kept}

@@ -1,4 +1,4 @@
-use Rattle.std.proofs.Common.{◌≡◌, ◌≤◌, ℕ, length, ap, arith}
+use Rattle.std.proofs.Common.{length, ap, arith}
 use Rattle.me_terms.specs.Values.{ClauseValue}
 use Rattle.candidate_store.proofs.Collected.{keeps_on, beside_more, beside_all}
 use Rattle.candidate_store.proofs.search.Search.add_asserts_at.Goals as goal

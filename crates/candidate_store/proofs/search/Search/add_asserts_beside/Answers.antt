@@ -1,4 +1,4 @@
-use Rattle.candidate_store.proofs.Collected.{beside_itself, beside_place}
+use Rattle.candidate_store.proofs.Collected.{beside_itself}
 use Rattle.candidate_store.proofs.search.Search.add_asserts_beside.Goals as goal
 
 pub returns-then-place-at-clause-added : goal.returns-then-place-at-clause-added

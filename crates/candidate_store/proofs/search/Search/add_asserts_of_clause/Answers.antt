@@ -1,4 +1,4 @@
-use Rattle.std.proofs.Common.{◌≡◌, ◌≤◌, ℕ, length, ap, arith}
+use Rattle.std.proofs.Common.{length, ap, arith}
 use Rattle.me_terms.specs.Values.{ClauseValue}
 use Rattle.candidate_store.proofs.Collected.{keeps_on, by_more, by_all}
 use Rattle.candidate_store.proofs.search.Search.add_asserts_of_clause.Goals as goal

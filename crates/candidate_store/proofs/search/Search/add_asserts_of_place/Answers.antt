@@ -1,4 +1,4 @@
-use Rattle.std.proofs.Common.{◌≡◌, Some, None, refl, ap}
+use Rattle.std.proofs.Common.{Some, ap}
 use Rattle.me_terms.specs.Values.{ClauseValue}
 use Rattle.tuple_search.specs.Cursors.{CursorValue}
 use Rattle.next_rule.proofs.Cursors.{cursor_begun, advances, fewer, no_more}

@@ -1,4 +1,4 @@
-use Rattle.std.proofs.Common.{◌≡◌, Some, None, refl, sym, ap, ◌∙◌}
+use Rattle.std.proofs.Common.{None, refl, ap}
 use Rattle.me_terms.specs.Values.{ClauseValue}
 use Rattle.next_rule.proofs.Cursors.{none_at_all, next_copied}
 use Rattle.candidate_store.proofs.Unpaired.{close_unpaired}

@@ -1,4 +1,4 @@
-use Rattle.std.proofs.Common.{◌≡◌, List, length, refl, ap, subst, ◌∙◌}
+use Rattle.std.proofs.Common.{List, length, refl, ap, subst, ◌∙◌}
 use Rattle.std.proofs.lemmas.Option.{slice_get_read}
 use Rattle.candidate_keys.specs.Keys.{UnifierKeyValue}
 use Rattle.candidate_store.specs.Kept.{FrameValue}

@@ -1,4 +1,3 @@
-use Rattle.std.proofs.Common.{◌≡◌, Option, Some, refl, subst}
 use Rattle.candidate_store.proofs.Found.{unifier_places, some_remains, chosen_place, found_is, found_met}
 use Rattle.kept_asserts.proofs.Ranked.{where_some, where_none}
 use Rattle.candidate_store.proofs.search.Search.found_at.Goals as goal

@@ -1,7 +1,6 @@
-use Rattle.std.proofs.Common.{◌≡◌, length, refl, sym, subst}
+use Rattle.std.proofs.Common.{length, refl, sym, subst}
 use Rattle.me_terms.specs.Next.{NextValue, IsNext}
 use Rattle.std.proofs.Common.{take}
-use Rattle.candidate_store.specs.Kept.{IsSettled}
 use Rattle.candidate_store.proofs.Wholes.{top_next, asserts_settled}
 use Rattle.candidate_store.proofs.search.Search.frame.Goals as goal
 

@@ -1,4 +1,4 @@
-use Rattle.std.proofs.Common.{◌≡◌, ◌-◌, ℕ, length, refl, sym, subst, arith}
+use Rattle.std.proofs.Common.{◌≡◌, ◌-◌, ℕ, length, refl, subst, arith}
 use Rattle.candidate_store.specs.Searches.{WithPivot, HoldsAssertsIn}
 use Rattle.kept_asserts.proofs.Ranked.{where_some}
 use Rattle.candidate_store.proofs.Wholes.{asserts_new, frame_again}

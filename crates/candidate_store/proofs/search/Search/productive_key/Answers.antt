@@ -1,7 +1,3 @@
-use Rattle.std.proofs.Common.{◌≡◌, Option, Some, subst}
-use Rattle.std.specs.Prelude.{IfSome, IfNone}
-use Rattle.joint_unifiers.specs.ClauseUnifiers.{UnifierValue}
-use Rattle.candidate_store.specs.Firsts.{IsProductiveOf}
 use Rattle.candidate_store.proofs.Found.{unifier_places, key_of}
 use Rattle.kept_asserts.proofs.Ranked.{where_some, where_none}
 use Rattle.candidate_store.proofs.search.Search.productive_key.Goals as goal

@@ -1,4 +1,4 @@
-use Rattle.std.proofs.Common.{◌≡◌, ℕ, List, length, refl, sym, subst}
+use Rattle.std.proofs.Common.{ℕ, List, length, refl, sym, subst}
 use Rattle.candidate_store.specs.Searches.{PivotFrom, HaveUnifiersIn}
 use Rattle.candidate_keys.specs.Keys.{UnifierKeyValue}
 use Rattle.candidate_store.specs.Firsts.{HaveAll}

@@ -1,4 +1,4 @@
-use Rattle.std.proofs.Common.{◌≡◌, Option, Some, None, subst}
+use Rattle.std.proofs.Common.{Option, subst}
 use Rattle.split_rule.specs.declared.choice.SplitChoice.{SplitChoice}
 use Rattle.split_rule.specs.SplitChoices.{IsChosen}
 use Rattle.kept_asserts.proofs.Ranked.{where_some}

@@ -1,4 +1,4 @@
-use Rattle.std.proofs.Common.{◌≡◌, sym, subst, ap}
+use Rattle.std.proofs.Common.{sym, subst, ap}
 use Rattle.me_terms.specs.Next.{NextValue, IsNext}
 use Rattle.candidate_store.specs.Firsts.{FoundValue}
 use Rattle.candidate_store.proofs.MetKeys.{best_is_next, none_is_next}

@@ -1,4 +1,4 @@
-use Rattle.std.proofs.Common.{◌≡◌, Some, None, refl, ap, ◌∙◌}
+use Rattle.std.proofs.Common.{None, ap, ◌∙◌}
 use Rattle.me_terms.specs.Values.{ClauseValue}
 use Rattle.me_laws.proofs.Determined.{clause_same}
 use Rattle.tuple_search.specs.Cursors.{CursorValue}

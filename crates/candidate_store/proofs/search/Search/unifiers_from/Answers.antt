@@ -1,4 +1,4 @@
-use Rattle.std.proofs.Common.{◌≡◌, ◌≤◌, ℕ, length, arith}
+use Rattle.std.proofs.Common.{arith}
 use Rattle.candidate_store.proofs.United.{within_more, within_first, within_all}
 use Rattle.candidate_store.proofs.search.Search.unifiers_from.Goals as goal
 

@@ -1,4 +1,4 @@
-use Rattle.std.proofs.Common.{◌≡◌, ◌≤◌, ℕ, length, ap, arith}
+use Rattle.std.proofs.Common.{length, ap, arith}
 use Rattle.me_terms.specs.Values.{ProblemValue}
 use Rattle.candidate_store.proofs.United.{pseudo_more, pseudo_all}
 use Rattle.candidate_store.proofs.search.Search.unifiers_of_pseudo.Goals as goal

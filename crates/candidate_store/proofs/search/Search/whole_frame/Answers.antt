@@ -1,4 +1,4 @@
-use Rattle.std.proofs.Common.{◌≡◌, length, refl}
+use Rattle.std.proofs.Common.{length, refl}
 use Rattle.candidate_store.proofs.Wholes.{frame_again}
 use Rattle.candidate_store.proofs.search.Search.whole_frame.Goals as goal
 

@@ -1,4 +1,4 @@
-use Rattle.std.proofs.Common.{◌≡◌, ◌+◌, ◌<◌, ℕ, length, take, sym, subst, ap, ◌∙◌, refl, arith}
+use Rattle.std.proofs.Common.{ap, ◌∙◌}
 use Rattle.clause_pairs.proofs.Rows.{on_ok, on_err}
 use Rattle.candidate_store.specs.Kept.{StoreValue}
 use Rattle.candidate_store.proofs.Stored.{frame_kept}

@@ -1,4 +1,4 @@
-use Rattle.std.proofs.Common.{◌≡◌, ◌+◌, ◌<◌, ℕ, length, take, sym, subst, ap, ◌∙◌, arith}
+use Rattle.std.proofs.Common.{◌+◌, ℕ, length, take, sym, subst, ap, ◌∙◌, arith}
 use Rattle.me_terms.specs.Validity.{IsLawful}
 use Rattle.me_terms.specs.declared.bounds.Bounds.{Bounds}
 use Rattle.me_terms.specs.declared.bounds.TheConstants.{MAX_ENTRIES}

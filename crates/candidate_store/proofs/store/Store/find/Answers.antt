@@ -1,5 +1,4 @@
-use Rattle.std.proofs.Common.{◌≡◌, ◌+◌, ◌<◌, ℕ, Bool, true, false, not, length, take, sym, subst, ap, ◌∙◌, refl, arith}
-use Rattle.me_terms.specs.AnswerViews.{next_value}
+use Rattle.std.proofs.Common.{◌≡◌, length, sym, ap, ◌∙◌, arith}
 use Rattle.candidate_store.specs.Kept.{FrameValue, is_close}
 use Rattle.candidate_store.proofs.Stored.{not_true, prefix_long, prefix_pairs, prefix_frames, prefix_asserts, whole_frame, whole_asserts, some_frames}
 use Rattle.candidate_store.proofs.store.Store.find.Goals as goal

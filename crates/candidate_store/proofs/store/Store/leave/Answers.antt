@@ -1,4 +1,4 @@
-use Rattle.std.proofs.Common.{◌≡◌, ◌+◌, ◌<◌, ◌≤◌, ℕ, List, [], ◌∷◌, ◌++◌, length, sym, subst, ap, ◌∙◌, refl, arith}
+use Rattle.std.proofs.Common.{◌≡◌, List, [], ◌∷◌, ◌++◌, length, sym, ap, ◌∙◌, refl, arith}
 use Rattle.me_terms.specs.declared.bounds.TheConstants.{MAX_ENTRIES}
 use Rattle.candidate_store.specs.Kept.{FrameValue}
 use Rattle.candidate_store.proofs.Stored.{some_left, left_one}

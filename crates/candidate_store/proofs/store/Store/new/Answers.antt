@@ -1,4 +1,4 @@
-use Rattle.std.proofs.Common.{◌≡◌, ◌<◌, true, false, refl, sym, ◌∙◌, arith}
+use Rattle.std.proofs.Common.{refl, arith}
 use Rattle.candidate_store.proofs.Framed.{start_frames}
 use Rattle.candidate_store.proofs.store.Store.new.Goals as goal
 

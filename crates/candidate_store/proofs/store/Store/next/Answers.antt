@@ -1,4 +1,4 @@
-use Rattle.std.proofs.Common.{◌≡◌, ◌<◌, ◌-◌, List, length, slice_get, Some, sym, subst, ◌∙◌}
+use Rattle.std.proofs.Common.{◌≡◌, ◌-◌, List, length, slice_get, Some, subst, ◌∙◌}
 use Rattle.me_terms.specs.Values.{ProblemValue}
 use Rattle.me_terms.specs.Context.{Context}
 use Rattle.me_terms.specs.Next.{IsNext}

@@ -1,4 +1,4 @@
-use Rattle.std.proofs.Common.{◌≡◌, ◌+◌, ◌<◌, ℕ, length, take, slice_get, Some, sym, subst, ap, ◌∙◌, refl, arith}
+use Rattle.std.proofs.Common.{◌≡◌, ℕ, length, take, slice_get, Some, sym, subst, ap, ◌∙◌, refl, arith}
 use Rattle.me_terms.specs.Context.{Context, add}
 use Rattle.entry_hiding.specs.Hiding.{IsHidingOf}
 use Rattle.entry_hiding.specs.Values.{HidingValue}
