@@ -1,5 +1,5 @@
 -- Which entry is that of a key's Assert.
-use Rattle.std.proofs.Common.{◌≡◌, ◌↔◌, Bool, true, false, IsTrue, ℕ, List, ◌∷◌, Option, None, Some, sym, subst, ◌∙◌}
+use Rattle.std.proofs.Common.{◌≡◌, ◌↔◌, Bool, true, false, IsTrue, ℕ, List, ◌∷◌, Option, None, Some, subst}
 use Rattle.std.specs.Prelude.{Result, Ok, Err, IfOk, IfNone, IfSome}
 use Rattle.me_terms.specs.Values.{ProblemValue, EntryValue}
 use Rattle.me_terms.specs.Context.{Context}

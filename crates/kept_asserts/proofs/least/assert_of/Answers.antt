@@ -1,4 +1,4 @@
-use Rattle.std.proofs.Common.{◌≡◌, subst}
+use Rattle.std.proofs.Common.{subst}
 use Rattle.std.specs.Prelude.{IfOk, IfNone}
 use Rattle.me_terms.specs.Values.{EntryValue}
 use Rattle.me_terms.specs.Positions.{ClauseAt}

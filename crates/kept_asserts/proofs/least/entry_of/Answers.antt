@@ -1,4 +1,4 @@
-use Rattle.std.proofs.Common.{◌≡◌, sym, subst}
+use Rattle.std.proofs.Common.{sym, subst}
 use Rattle.me_terms.specs.Values.{EntryValue}
 use Rattle.kept_asserts.specs.Held.{IsAssertOf}
 use Rattle.kept_asserts.proofs.Ranked.{is_so, not_so, where_none, where_some, ranked, unranked}

@@ -1,4 +1,4 @@
-use Rattle.std.proofs.Common.{◌≡◌, List, sym, subst}
+use Rattle.std.proofs.Common.{List, sym, subst}
 use Rattle.candidate_keys.specs.Keys.{AssertKeyValue}
 use Rattle.kept_asserts.specs.Held.{HoldsAsserts}
 use Rattle.kept_asserts.proofs.Ranked.{where_none, where_some}

@@ -1,4 +1,4 @@
-use Rattle.std.proofs.Common.{◌≡◌, ◌∙◌, Option, Some, ℕ, ap, refl}
+use Rattle.std.proofs.Common.{◌∙◌, Option, Some, ℕ, ap, refl}
 use Rattle.kept_asserts.proofs.Opposed.{opposes_some, opposes_none}
 use Rattle.kept_asserts.proofs.opposing.opposes_at.Goals as goal
 

@@ -1,4 +1,4 @@
-use Rattle.std.proofs.Common.{◌≡◌, ◌<◌, ◌+◌, length, arith}
+use Rattle.std.proofs.Common.{◌<◌, ◌+◌, length, arith}
 use Rattle.kept_asserts.proofs.Opposed.{position_read}
 use Rattle.kept_asserts.proofs.opposing.position_at.Goals as goal
 
