@@ -1,0 +1,11 @@
+pub mod Fixing
+pub mod Counting
+pub mod Branches
+pub mod Refuting
+pub mod Namings
+pub mod Modelling
+pub mod Scanning
+pub mod Numberings
+pub mod Searching
+pub mod Onward
+pub mod Concluding

@@ -1,0 +1,10 @@
+pub mod Assignments
+pub mod ClosingProofs
+pub mod Decisions
+pub mod Laws
+pub mod Named
+pub mod Numbered
+pub mod Standings
+pub mod Turns
+pub mod Underway
+pub mod Verdicts
