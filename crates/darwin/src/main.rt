@@ -6,6 +6,7 @@ use me_io::{StdSink, StdSource};
 use std::io::ErrorKind;
 use std::process::ExitCode;
 use std::{env, io};
+use steal_pool::NoGate;
 use szs_print::{Refusal, write_refusal};
 
 /// The program's name and the words after it.
@@ -17,23 +18,23 @@ fn words_of(rt: &HostRuntime) -> io::Result<Vec<String>> {
     Ok(words)
 }
 
-fn status(rt: &HostRuntime) -> u8 {
+fn main(rt: HostRuntime) -> ExitCode {
     let alloc = rt.alloc();
     let mut source = StdSource::new(rt.stdin());
     let mut sink = StdSink::new(rt.stdout());
-    match words_of(rt) {
-        Ok(words) => run(alloc, &words, &mut source, &mut sink),
+    let status = match words_of(&rt) {
+        Ok(words) => run(&rt, alloc, &words, &mut source, &mut sink, &NoGate),
         Err(error) => match error.kind() {
             // A word that is no text is not accepted, and neither is a list without words.
-            ErrorKind::InvalidData => run(alloc, &Vec::new(alloc), &mut source, &mut sink),
+            ErrorKind::InvalidData => {
+                let none = Vec::new(alloc);
+                run(&rt, alloc, &none, &mut source, &mut sink, &NoGate)
+            }
             _ => match write_refusal(&mut sink, b"stdin", &Refusal::Memory) {
                 Ok(()) => 7,
                 Err(_) => 6,
             },
         },
-    }
-}
-
-fn main(rt: HostRuntime) -> ExitCode {
-    ExitCode::from(status(&rt))
+    };
+    ExitCode::from(status)
 }

@@ -2,11 +2,16 @@
 use Rattle.std.proofs.Common.{◌≡◌, ◌⊎◌, inl, inr, ℕ, ◌+◌, ◌<◌, ◌≤◌, List, ◌++◌, length, Option, Some, None, Result, Ok, Err, refl, sym, subst, ap, ◌∙◌, arith}
 use Rattle.std.proofs.lemmas.List.{append-nil}
 use Rattle.std.proofs.lemmas.Option.{same_Some}
-use Rattle.std.specs.Prelude.{IfOk, IfErr, IfSome}
+use Rattle.std.specs.Prelude.{IfOk, IfErr, IfSome, IsSome}
 use Rattle.std.specs.Io.KnownBytes.{Consumes, IsAtEnd}
 use Rattle.me_io.specs.Source.{Rose, GaveFront}
 use Rattle.me_io.specs.declared.source.TheConstants.{MAX_BYTES}
 use Rattle.me_terms.specs.Values.{ProblemValue}
+use Rattle.me_terms.specs.Answer.{AnswerValue}
+use Rattle.me_terms.specs.AnswerViews.{answer_value}
+use Rattle.darwin_solve.specs.Evidence.{MeetsOnlyList}
+use Rattle.made_laws.specs.MadeProblems.{AreWide}
+use Rattle.made_laws.proofs.MadeRoom.{made_roomy}
 use Rattle.tptp_grammar.specs.declared.refusal.Refusal.{Refusal as FileRefusal}
 use Rattle.tptp_grammar.specs.declared.refusal.Refusal.TheVariants as file
 use Rattle.tptp_cnf.specs.Files.{IsFile}
@@ -14,8 +19,10 @@ use Rattle.tptp_cnf.specs.Causes.{RefusedAt}
 use Rattle.tptp_cnf.proofs.Causal.{one_cause, refused_is_no_file}
 use Rattle.szs_print.specs.declared.refusal.Refusal.{Refusal}
 use Rattle.szs_print.specs.declared.refusal.Refusal.TheVariants.{Usage, Syntax, Inappropriate, Limit, Length, Read, Memory}
-use Rattle.darwin_cli.specs.Outcome.{IsFileCause, GaveAll, GaveTooMany, IsAskedFor, IsTextFor, IsFileRefused, IsCause, IsAnswered, status_of}
-use Rattle.darwin_cli.specs.Replies.{IsAnswerTo, IsSummaryOf}
+use Rattle.darwin_cli.specs.Outcome.{IsSure, IsFileCause, GaveAll, GaveTooMany, IsAskedFor, IsTextFor, IsFileRefused, IsCause, IsAnswered, status_of}
+use Rattle.darwin_cli.specs.Replies.{IsReply}
+use Rattle.darwin_cli.specs.declared.answer.TheConstants.{MADE_PREDICATES, MADE_CLAUSES}
+use Rattle.make_problem.specs.Made.{IsMade}
 use Rattle.darwin_options.specs.declared.options.Options.{Options}
 
 -- ---- what stands in the bytes
@@ -78,7 +85,7 @@ all_given (Some xs) (Some ys) bytes given given' whole end front = sym whole ∙
 
 module _ {S : Type 0} (left : S → Option (List ℕ)) (given : S → ℕ) (ended : S → Type 0) (faults : S → ℕ) (options : Options) (old new : S) where
   -- a source that tells its bytes gave up no others
-  same_bytes : (bytes other : List ℕ) → left old ≡ Some bytes → GaveAll left given ended faults options old new other → other ≡ bytes
+  pub same_bytes : (bytes other : List ℕ) → left old ≡ Some bytes → GaveAll left given ended faults options old new other → other ≡ bytes
   same_bytes bytes other told all = all_consumed (left old) (left new) bytes other told all.none_left all.gone
 
   -- few bytes are not too many
@@ -162,28 +169,42 @@ module _ {S : Type 0} (left : S → Option (List ℕ)) (given : S → ℕ) (ende
   cause_of_solved bytes (Ok text) unmade all either = tt
   cause_of_solved bytes (Err r) unmade all either = solved_cause bytes r unmade all either
 
-  -- the text of an answer to the problem that the bytes mean
-  pub answered_of_solved : (bytes text : List ℕ) → options.make ≡ None → GaveAll left given ended faults options old new bytes → IsAnswerTo options bytes text → IsAnswered left given ended faults options old new text
-  answered_of_solved bytes text unmade all solved =
-      let Asked : Option ℕ → Type 0 = λ make. IsAskedFor left given ended faults options old new make solved.0 in
-      let Told : Option ℕ → Type 0 = λ make. IsTextFor make options.name.items solved.0 solved.1 text in
-      record {
-        problem = solved.0;
-        answer = solved.1;
-        asked = subst Asked (sym unmade) (bytes, all, solved.2);
-        sure = solved.3;
-        text_is = subst Told (sym unmade) solved.4;
-      }
+  -- the problem that the bytes mean is the one that is asked for
+  pub asked_of_bytes : (bytes : List ℕ) (problem : ProblemValue) → options.make ≡ None → GaveAll left given ended faults options old new bytes → IsFile bytes problem → IsAskedFor left given ended faults options old new options.make problem
+  asked_of_bytes bytes problem unmade all means =
+      let P : Option ℕ → Type 0 = λ make. IsAskedFor left given ended faults options old new make problem in
+      subst P (sym unmade) (bytes, all, means)
 
-  -- the summary of an answer to a made problem
-  pub answered_of_made : (seed : ℕ) (text : List ℕ) → options.make ≡ Some seed → new ≡ old → IsSummaryOf options seed text → IsAnswered left given ended faults options old new text
-  answered_of_made seed text seeded same solved =
-      let Asked : Option ℕ → Type 0 = λ make. IsAskedFor left given ended faults options old new make solved.0 in
-      let Told : Option ℕ → Type 0 = λ make. IsTextFor make options.name.items solved.0 solved.1 text in
-      record {
-        problem = solved.0;
-        answer = solved.1;
-        asked = subst Asked (sym seeded) (same, solved.2);
-        sure = solved.3;
-        text_is = subst Told (sym seeded) solved.4;
-      }
+  -- the problem that is made of the seed is the one that is asked for
+  pub asked_of_seed : (seed : ℕ) (problem : ProblemValue) → options.make ≡ Some seed → new ≡ old → IsMade seed MADE_PREDICATES MADE_CLAUSES problem → IsAskedFor left given ended faults options old new options.make problem
+  asked_of_seed seed problem seeded same made =
+      let P : Option ℕ → Type 0 = λ make. IsAskedFor left given ended faults options old new make problem in
+      subst P (sym seeded) (same, made)
+
+  -- a made problem within wide bounds is decided
+  made_decided : (make : Option ℕ) (problem : ProblemValue) (reply : AnswerValue) → IsAskedFor left given ended faults options old new make problem → IsSure problem options.bounds options.from reply → IsSome make → AreWide MADE_PREDICATES options.bounds → MeetsOnlyList reply
+  made_decided None problem reply asked sure some wide = cc some
+  made_decided (Some seed) problem reply asked sure some wide =
+      sure.function_free (made_roomy.function_free seed MADE_PREDICATES MADE_CLAUSES problem asked.1)
+      (made_roomy.roomy seed MADE_PREDICATES MADE_CLAUSES problem options.bounds some_predicates asked.1 wide)
+    where
+      some_predicates : 1 ≤ 30
+      some_predicates = omega arith
+
+  -- the text of the reply to the problem that is asked for
+  pub answered_by : (problem : ProblemValue) (text : List ℕ) → IsAskedFor left given ended faults options old new options.make problem → IsReply options problem text → IsAnswered left given ended faults options old new text
+  answered_by problem text asked reply = record {
+    problem = problem;
+    answer = reply.0;
+    asked = asked;
+    sure = reply.1;
+    text_is = reply.2;
+    decided = made_decided options.make problem (answer_value reply.0) asked reply.1;
+  }
+
+  -- want of memory has its cause
+  pub cause_of_memory : {T : Type 0} (result : Result T Refusal) → IfErr result (λ r. r ≡ Memory) → IfErr result (IsCause left given ended faults options old new)
+  cause_of_memory (Ok text) h = tt
+  cause_of_memory (Err r) h =
+      let P : Refusal → Type 0 = λ x. IsCause left given ended faults options old new x in
+      subst P (sym h) tt

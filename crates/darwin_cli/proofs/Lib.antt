@@ -1,3 +1,5 @@
 mod Causes
 mod Known
+mod OneText
+mod Statuses
 mod Told

@@ -1,5 +1,5 @@
 -- What the program owes to the options of a call and to what it is given: which refusals have their cause, and which answers are true of the problem.
-use Rattle.std.specs.Prelude.{◌≡◌, ◌⊎◌, ◌+◌, ◌<◌, ◌≤◌, ℕ, List, length, Option, Some, None, IfSome}
+use Rattle.std.specs.Prelude.{◌≡◌, ◌⊎◌, ◌+◌, ◌<◌, ◌≤◌, ℕ, List, length, Option, Some, None, IfSome, IsSome}
 use Rattle.std.specs.Io.KnownBytes.{Consumes, IsAtEnd, Appends}
 use Rattle.me_io.specs.Source.{Rose}
 use Rattle.me_io.specs.declared.source.TheConstants.{MAX_BYTES}
@@ -17,6 +17,7 @@ use Rattle.tptp_cnf.specs.Causes.{RefusedAt}
 use Rattle.tptp_cnf.specs.declared.error.CnfError.{CnfError}
 use Rattle.tptp_cnf.specs.declared.error.CnfError.TheVariants as error
 use Rattle.make_problem.specs.Made.{IsMade}
+use Rattle.made_laws.specs.MadeProblems.{AreWide}
 use Rattle.darwin_options.specs.declared.options.Options.{Options}
 use Rattle.darwin_cli.specs.declared.answer.TheConstants.{MADE_PREDICATES, MADE_CLAUSES}
 use Rattle.szs_print.specs.AnswerText.{IsAnswerText}
@@ -98,13 +99,14 @@ module _ {S : Type 0} (left : S → Option (List ℕ)) (given : S → ℕ) (ende
   IsCause Read = (options.make ≡ None) × Rose (faults old) (faults new)
   IsCause Memory = Unit {0}
 
-  -- The text is that of an answer over the problem that is asked for, within the bounds of the options, from the depth that they begin with.
+  -- The text is that of an answer over the problem that is asked for, within the bounds of the options, from the depth that they begin with. The answer to a made problem within wide bounds gives up for the weight of the list alone.
   pub record IsAnswered (text : List ℕ) : Type 0 where
     pub problem : ProblemValue
     pub answer : Answer
     pub asked : IsAskedFor options.make problem
     pub sure : IsSure problem options.bounds options.from (answer_value answer)
     pub text_is : IsTextFor options.make options.name.items problem answer text
+    pub decided : IsSome options.make → AreWide MADE_PREDICATES options.bounds → MeetsOnlyList (answer_value answer)
 
   -- A refusal of this status has its cause, and its text was written to a sink, which held these bytes before and those after it.
   abbrev pub IsRefused : ℕ → (held held' : Option (List ℕ)) → Type 0

@@ -1,52 +1,49 @@
-use Rattle.std.proofs.Common.{inl, inr, refl, subst, sym}
-use Rattle.darwin_cli.proofs.Told.{own_status, words_cause}
+use Rattle.std.proofs.Common.{inl, inr, ℕ, List, refl, subst, sym}
+use Rattle.darwin_cli.proofs.OneText.{wrote_one_text}
+use Rattle.darwin_cli.proofs.Statuses.{words_not_answered, words_wrote, words_file_status, words_made_status}
+use Rattle.darwin_cli.proofs.Told.{words_cause}
 use Rattle.darwin_cli.specs.Calls.{IsWordsCause}
 use Rattle.darwin_cli.proofs.top.run.Goals as goal
 
-pub returns-in-Ok-clause-answered : goal.returns-in-Ok-clause-answered
-returns-in-Ok-clause-answered g c =
-    λ zero. let found = c.run_alone.ensures.answered zero in (found.0, (c.in-Ok.options, c.in-Ok.ensures.asked, found.1), found.2)
+pub returns-in-Ok : goal.returns-in-Ok
+returns-in-Ok g c =
+    let options = c.in-Ok.options in
+    let asked = c.in-Ok.ensures.asked in
+    let wrote = c.run_options.ensures.wrote in
+    let held = g.K.Sink.written c.args.sink.now in
+    let held' = g.K.Sink.written c.run_options.new.sink in
+    record {
+      wrote = record {
+        range = wrote.range;
+        answered = λ zero. let found = wrote.answered zero in (found.0, (options, asked, found.1), found.2);
+        refused = λ some other. inr (options, asked, wrote.refused some other);
+        front = λ six. let found = wrote.front six in (found.0, found.1, inr (options, asked, found.2), found.3);
+        sink_fault = wrote.sink_fault;
+        usage = λ refused. absurd (refused (asked.0, asked.1));
+        too_long = wrote.too_long;
+      };
+      one_text = λ zero. let found = wrote.answered zero in wrote_one_text g.S.Source.left g.S.Source.given g.S.Source.ended g.S.Source.faults c.args.words.now.items options c.args.source.now c.run_options.new.source held held' found.0 asked found.1 found.2;
+      file = λ ask. c.run_options.ensures.file (ask.unmade options asked);
+      made = λ ask. c.run_options.ensures.made (ask.seeded options asked);
+    }
 
-pub returns-in-Ok-clause-refused : goal.returns-in-Ok-clause-refused
-returns-in-Ok-clause-refused g c =
-    λ some other. inr (c.in-Ok.options, c.in-Ok.ensures.asked, c.run_alone.ensures.refused some other)
-
-pub returns-in-Ok-clause-front : goal.returns-in-Ok-clause-front
-returns-in-Ok-clause-front g c =
-    λ six. let found = c.run_alone.ensures.front six in (found.0, found.1, inr (c.in-Ok.options, c.in-Ok.ensures.asked, found.2), found.3)
-
-pub returns-in-Ok-clause-usage : goal.returns-in-Ok-clause-usage
-returns-in-Ok-clause-usage g c =
-    λ refused. absurd (refused (c.in-Ok.ensures.asked.0, c.in-Ok.ensures.asked.1))
-
-pub returns-in-Ok-clause-unread : goal.returns-in-Ok-clause-unread
-returns-in-Ok-clause-unread g c =
-    λ refused. absurd (refused (c.in-Ok.ensures.asked.0, c.in-Ok.ensures.asked.1))
-
-pub returns-in-Ok-clause-refused_file : goal.returns-in-Ok-clause-refused_file
-returns-in-Ok-clause-refused_file g c =
-    λ ask bytes due told_bytes few is. c.run_alone.ensures.refused_file (ask.unmade c.in-Ok.options c.in-Ok.ensures.asked) bytes due told_bytes few is
-
-pub returns-in-Ok-clause-file : goal.returns-in-Ok-clause-file
-returns-in-Ok-clause-file g c =
-    λ ask bytes problem told_bytes few means. c.run_alone.ensures.file (ask.unmade c.in-Ok.options c.in-Ok.ensures.asked) bytes problem told_bytes few means
-
-pub returns-in-Ok-clause-complete : goal.returns-in-Ok-clause-complete
-returns-in-Ok-clause-complete g c =
-    λ ask bytes problem told_bytes few means quiet still. c.run_alone.ensures.complete (ask.unmade c.in-Ok.options c.in-Ok.ensures.asked) bytes problem told_bytes few means quiet still
-
-pub returns-in-Ok-clause-made : goal.returns-in-Ok-clause-made
-returns-in-Ok-clause-made g c =
-    λ ask. c.run_alone.ensures.made (ask.seeded c.in-Ok.options c.in-Ok.ensures.asked)
-
-pub returns-in-Ok-clause-made_unread : goal.returns-in-Ok-clause-made_unread
-returns-in-Ok-clause-made_unread g c =
-    λ ask. c.run_alone.ensures.made_unread (ask.seeded c.in-Ok.options c.in-Ok.ensures.asked)
-
-pub returns-in-Ok-clause-made_complete : goal.returns-in-Ok-clause-made_complete
-returns-in-Ok-clause-made_complete g c =
-    λ ask still. c.run_alone.ensures.made_complete (ask.seeded c.in-Ok.options c.in-Ok.ensures.asked) still
-
-pub returns-in-Err-clause-refused : goal.returns-in-Err-clause-refused
-returns-in-Err-clause-refused g c =
-    λ some other. let cause : IsWordsCause c.args.words.now.items c.refusal_of.result = subst (IsWordsCause c.args.words.now.items) (sym c.refusal_of.ensures) (words_cause c.args.words.now.items c.in-Err.error c.in-Err.ensures.usage) in inl (c.refusal_of.result, own_status c.refusal_of.result c.tell.result c.tell.ensures.status other, (cause, refl), c.tell.ensures.whole other)
+pub returns-in-Err : goal.returns-in-Err
+returns-in-Err g c =
+    let words = c.args.words.now.items in
+    let r = c.refusal_of.result in
+    let left = g.S.Source.left in
+    let given = g.S.Source.given in
+    let ended = g.S.Source.ended in
+    let faults = g.S.Source.faults in
+    let written = g.K.Sink.written in
+    let broken = g.K.Sink.faults in
+    let old = c.args.source.now in
+    let sink = c.args.sink.now in
+    let later = c.tell.new.sink in
+    let cause : IsWordsCause words r = subst (IsWordsCause words) (sym c.refusal_of.ensures) (words_cause words c.in-Err.error c.in-Err.ensures.usage) in
+    record {
+      wrote = words_wrote left given ended faults written broken words old sink later r c.tell.result cause c.tell.ensures;
+      one_text = λ zero. absurd (words_not_answered words r c.tell.result cause c.tell.ensures.status_is zero);
+      file = λ ask. words_file_status left given ended faults written broken words old sink later r c.tell.result ask.accepted cause c.tell.ensures;
+      made = λ ask. words_made_status left given ended faults written broken words old sink later r c.tell.result ask.accepted cause c.tell.ensures;
+    }

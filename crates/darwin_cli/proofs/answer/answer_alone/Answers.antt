@@ -4,7 +4,7 @@ use Rattle.szs_print.specs.Printable.{IsPrintable}
 use Rattle.darwin_solve.specs.Evidence.{IsOverProblem}
 use Rattle.darwin_cli.proofs.Causes.{if_ok}
 use Rattle.darwin_cli.proofs.Known.{printable_is, sure_is}
-use Rattle.darwin_cli.proofs.answer.answer_to.Goals as goal
+use Rattle.darwin_cli.proofs.answer.answer_alone.Goals as goal
 
 pub returns-clause-sure : goal.returns-clause-sure
 returns-clause-sure c =
