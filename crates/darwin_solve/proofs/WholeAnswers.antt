@@ -26,12 +26,6 @@ module _ (problem : ProblemValue) (bounds : Bounds) where
   pub pushed_can : (before items : List RecordValue) (one : RecordValue) → before ≡ [] → items ≡ before ++ one ∷ [] → AreWholeRecords problem bounds (one ∷ []) → CanAssemble items
   pushed_can before items one none pushed whole = whole_can problem bounds items (pushed_whole before items one none pushed whole)
 
-  -- what is whole for an equal problem within equal bounds
-  pub whole_for : (other : ProblemValue) (others : Bounds) (items : List RecordValue) → other ≡ problem → others ≡ bounds → AreWholeRecords other others items → AreWholeRecords problem bounds items
-  whole_for other others items same same_bounds whole =
-      let P : ProblemValue × Bounds → Type 0 = λ z. AreWholeRecords z.0 z.1 items in
-      subst P (λ i. (same i, same_bounds i)) whole
-
   -- With the answer comes all that is promised of it.
   pub record IsAnswered {E : Type 0} (r : Result Answer E) : Type 0 where
     pub answer : IfOk r (λ answer. HasAnswer problem bounds (answer_value answer))

@@ -12,5 +12,5 @@ mod solve;
 
 pub use deepening::{deepen_alone, deepen_pool, next_depth};
 pub use explorer::Explorer;
-pub use pool::solve_pool;
+pub use pool::{explore_pool, solve_pool};
 pub use solve::solve_alone;

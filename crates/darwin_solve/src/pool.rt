@@ -4,11 +4,12 @@ ghost use Rattle.me_terms.specs.Validity.{IsLawful, IsValid};
 ghost use Rattle.me_terms.specs.Answer.{HasAnswer};
 ghost use Rattle.me_terms.specs.AnswerViews.{answer_value};
 ghost use Rattle.me_laws_counting.specs.FunctionFree.{IsFunctionFree, IsRoomy};
+ghost use Rattle.branch_core.specs.Whole.{AreWholeRecords};
 ghost use Rattle.darwin_solve.specs.Evidence.{HasModel, HasRefutation, IsOverProblem, MeetsOnlyList};
 
 use crate::exploration::{Exploration, PoolSearch};
 use crate::explorer::Explorer;
-use branch_core::assemble;
+use branch_core::{Records, assemble};
 use branch_roots::{LentNodes, Roots};
 use context_nodes::Nodes;
 use me_terms::{Answer, Bounds, Problem};
@@ -41,10 +42,31 @@ pub fn solve_pool<R: Threads + Wait + Sync, G: Gate>(
     ensures function_free { IfOk result (λ answer. IsFunctionFree problem.now → IsRoomy problem.now bounds.now → MeetsOnlyList (answer_value answer)) }
     ensures printable { IfOk result (λ answer. IsOverProblem problem.now (answer_value answer)) }
 {
+    let records = explore_pool(rt, alloc, problem, bounds, workers, share, gate)?;
+    assemble(alloc, &records, bounds.list)
+}
+
+/// The records of the workers of `solve_pool`, which are whole over the problem's search tree.
+///
+/// Which records there are depends on the schedule. What is assembled of them does not.
+pub fn explore_pool<R: Threads + Wait + Sync, G: Gate>(
+    rt: &R,
+    alloc: Global,
+    problem: &Problem,
+    bounds: &Bounds,
+    workers: u32,
+    share: u32,
+    gate: &G,
+) -> Result<Records, AllocError>
+    requires valid { IsValid problem.now }
+    requires bounds { IsLawful bounds.now }
+    requires workers { (1 ≤ workers) × (workers ≤ 64) }
+    requires share { share ≤ 16 }
+    ensures whole { IfOk result (λ records. AreWholeRecords problem.now bounds.now records.items) }
+{
     let nodes = Nodes::new(alloc)?;
     let search = Exploration::new(problem, bounds);
-    let records = explore_nodes(rt, alloc, workers, share, &nodes, &search, gate)?;
-    assemble(alloc, &records, bounds.list)
+    explore_nodes(rt, alloc, workers, share, &nodes, &search, gate)
 }
 
 /// Explores the whole tree by branches over the table.

@@ -1,6 +1,6 @@
-use Rattle.std.proofs.Common.{sym, subst, ap, ◌∙◌}
+use Rattle.std.proofs.Common.{sym, subst, ap}
 use Rattle.me_terms.specs.Context.{Context}
-use Rattle.me_terms.specs.Grown.{IsGrown, started, start}
+use Rattle.me_terms.specs.Grown.{IsGrown, started}
 use Rattle.branch_walk.specs.Jobs.{turns_taken}
 use Rattle.darwin_solve.proofs.explorer.ExplorerExplore.root.Goals as goal
 
