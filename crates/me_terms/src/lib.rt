@@ -13,6 +13,7 @@ mod canonical_form;
 mod clause;
 mod entry;
 mod hash;
+mod lighter_first;
 mod matching;
 mod measures;
 mod problem;

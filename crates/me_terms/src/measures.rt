@@ -5,10 +5,11 @@
 ghost use Rattle.std.specs.Prelude.{◌≡◌};
 ghost use Rattle.me_terms.specs.TermViews.{term_value};
 ghost use Rattle.me_terms.specs.Terms.{arguments_of};
-ghost use Rattle.me_terms.specs.Variables.{is_ground, are_ground, depth, depths, weight, weights};
+ghost use Rattle.me_terms.specs.Variables.{is_ground, are_ground, depth, depths, weights};
 ghost use Rattle.me_terms.specs.Measures.{capped, literal_depth, literal_weight};
 
 use crate::atom::Literal;
+use crate::lighter_first::weight_within;
 use crate::term::{Rest, Term, Terms};
 
 /// The greatest depth of the literal's arguments, or 0 without any. A variable and a constant have depth
@@ -33,6 +34,13 @@ pub fn is_ground(lit: &Literal) -> bool
     lit.atom.args.are_ground()
 }
 
+/// The sum of the weights of a term's arguments, by a walk that takes no memory.
+fn weight_without_memory(args: &Terms) -> u64
+    ensures { result ≡ capped (weights (arguments_of args.now.items)) }
+{
+    weight_within(args.as_slice(), u64::MAX).unwrap_or(u64::MAX)
+}
+
 impl Term {
     #[cycle(is_ground)]
     fn is_ground(&self) -> bool
@@ -41,16 +49,6 @@ impl Term {
         match self {
             Term::Var(_) => false,
             Term::App { f: _, args } => args.are_ground(),
-        }
-    }
-
-    #[cycle(weight)]
-    fn weight(&self) -> u64
-        ensures { result ≡ capped (weight (term_value self.now)) }
-    {
-        match self {
-            Term::Var(_) => 1,
-            Term::App { f: _, args } => args.weight().saturating_add(1),
         }
     }
 
@@ -79,7 +77,7 @@ impl Terms {
     }
 
     /// The sum of the terms' weights. It takes a list of what is still to be counted, and where memory is
-    /// out it goes into a term by calls.
+    /// out it goes into a term without.
     fn weight_of_all(&self) -> u64
         ensures { result ≡ capped (weights (arguments_of self.now.items)) }
     {
@@ -95,7 +93,7 @@ impl Terms {
                         if later.push(Rest { terms: others }).is_ok() {
                             terms = args.as_slice();
                         } else {
-                            total = total.saturating_add(args.weight());
+                            total = total.saturating_add(weight_without_memory(args));
                             terms = others;
                         }
                     }
@@ -107,17 +105,6 @@ impl Terms {
                 terms = rest.terms;
             }
         }
-    }
-
-    #[cycle(weight)]
-    fn weight(&self) -> u64
-        ensures { result ≡ capped (weights (arguments_of self.now.items)) }
-    {
-        let mut total = 0_u64;
-        for item in &self.items {
-            total = total.saturating_add(item.weight());
-        }
-        total
     }
 
     #[cycle(depth)]
