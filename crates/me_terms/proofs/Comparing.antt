@@ -1,6 +1,7 @@
 -- Lists of terms that are compared in part.
-use Rattle.std.specs.Prelude.{◌≡◌, ℕ, ◌+◌, ◌<◌, Bool, true, false, ◌&&◌, List, [], ◌∷◌, ◌++◌, map, length, eqb}
+use Rattle.std.specs.Prelude.{◌≡◌, ℕ, ◌+◌, ◌<◌, Bool, true, false, ◌&&◌, ◌==◌, List, [], ◌∷◌, ◌++◌, map, length, eqb}
 use Rattle.std.proofs.Common.{refl, ap, sym, subst, ◌∙◌, arith}
+use Rattle.std.proofs.lemmas.Bool.Decides.{Decides-eqb}
 use Rattle.me_terms.proofs.Copying.{is_empty_of}
 use Rattle.me_terms.specs.Sequences.{SequenceValue}
 use Rattle.me_terms.specs.declared.term.Term.{Term}
@@ -82,6 +83,13 @@ pub uneven : (later : List Pair) (mine theirs : List Term) (all : Bool) → leng
 uneven later [] [] all m t i = absurd (omega (arith, t))
 uneven later [] (u ∷ us) all m t i = i
 uneven later (s ∷ ss) theirs all m t i = absurd (omega (arith, m))
+
+-- one list is at its end: they are alike where the other is, too
+pub ended : (mine theirs : List Term) (all alike : Bool) → length mine ≡ 0 → alike_lists mine theirs ≡ all → alike ≡ (length theirs == 0) → alike ≡ all
+ended [] [] all alike m i e = e ∙ i
+ended [] (u ∷ us) all true m i e = absurd (omega (arith, (Decides-eqb (length (u ∷ us)) 0).0 (sym e)))
+ended [] (u ∷ us) all false m i e = i
+ended (s ∷ ss) theirs all alike m i e = absurd (omega (arith, m))
 
 left_by : (later : List Pair) (p : Pair) (inner : List Term) (f : ℕ)
     → later_works (arguments_of (map term_value inner)) + left_to_compare (later ++ p ∷ []) < later_works (arguments_of (App f (arguments_of (map term_value inner)) ∷ map term_value p.rest.now)) + left_to_compare later

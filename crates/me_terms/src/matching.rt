@@ -35,7 +35,7 @@ impl Term {
     {
         match (self, special) {
             (Term::Var(x), _) => match generals.found(specials, *x) {
-                Some(value) => value.same(special),
+                Some(value) => *value == *special,
                 None => false,
             },
             (Term::App { f, args }, Term::App { f: g, args: others }) => {

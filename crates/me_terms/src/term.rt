@@ -9,6 +9,7 @@ ghost use Rattle.me_terms.specs.Terms.{arguments_of, App as AppTerm};
 ghost use Rattle.me_terms.specs.Dropping.{drop_work};
 ghost use Rattle.me_terms.specs.TermEquality.{same_term, same_arguments};
 
+use crate::lighter_first::alike_within;
 use std::alloc::{AllocError, Global};
 use std::marker::Model;
 use std::mem;
@@ -196,7 +197,7 @@ impl Term {
 
 impl Terms {
     /// Whether two lists have terms that are written alike, in order. It takes a list of what is still to
-    /// be compared, and where memory is out calls itself.
+    /// be compared, and where memory is out goes on without.
     pub(crate) fn alike(&self, other: &Terms) -> bool
         ensures { result ≡ same_arguments (arguments_of self.now.items) (arguments_of other.now.items) }
     {
@@ -221,7 +222,7 @@ impl Terms {
                             return false;
                         }
                         if later.push(Pair { rest, others }).is_err() {
-                            return self.same(other);
+                            return self.alike_without_memory(other);
                         }
                         mine = inner.as_slice();
                         theirs = outer.as_slice();
@@ -238,6 +239,21 @@ impl Terms {
                 mine = pair.rest;
                 theirs = pair.others;
             }
+        }
+    }
+
+    /// The same by a walk that takes no memory. Only lists of 2^64 symbols and more, which no memory holds,
+    /// are compared by calls as deep as their terms.
+    fn alike_without_memory(&self, other: &Terms) -> bool
+        ensures { result ≡ same_arguments (arguments_of self.now.items) (arguments_of other.now.items) }
+    {
+        let lists = Pair {
+            rest: self.as_slice(),
+            others: other.as_slice(),
+        };
+        match alike_within(lists, u64::MAX) {
+            Some(found) => found.alike,
+            None => self.same(other),
         }
     }
 
@@ -314,8 +330,8 @@ pub(crate) struct Rest<'a> {
 /// Lists of terms that are still to be compared.
 #[derive(Clone, Copy)]
 pub(crate) struct Pair<'a> {
-    rest: &'a [Term],
-    others: &'a [Term],
+    pub(crate) rest: &'a [Term],
+    pub(crate) others: &'a [Term],
 }
 
 /// A term of which some arguments are copied: its function, the terms before it, which are copied, and
@@ -336,7 +352,13 @@ impl PartialEq for Term {
     ghost laws = { on_per term_value (partial_equiv_from_equiv term_laws) };
 
     fn eq(&self, other: &Self) -> bool {
-        self.same(other)
+        match (self, other) {
+            (Term::Var(x), Term::Var(y)) => *x == *y,
+            (Term::App { f, args: mine }, Term::App { f: g, args: theirs }) => {
+                *f == *g && mine.alike(theirs)
+            }
+            _ => false,
+        }
     }
 }
 
