@@ -26,11 +26,13 @@ nothing, and `\\{COUNT TEXT}` is TEXT so often. An outcome is one of these, and 
     S: e1 LITERAL,KIND ;; e2 ..             a model; `S:` alone is the one that makes all atoms false
     summary WORD C N             what --make writes of C clauses and an answer of the size N
 
-The name is `stdin`, or what follows `--name`. Prints what differs first, and ends with 1 if one example does.
+The name is `stdin`, or what follows `--name`. Each run has a stack of 256 KiB, in each of its threads, so that a walk which
+calls itself as deep as a term shows. Prints what differs first, and ends with 1 if one example does.
 """
 import itertools
 import os
 import re
+import resource
 import subprocess
 import sys
 import tempfile
@@ -38,6 +40,7 @@ import tempfile
 TOP = os.path.dirname(os.path.dirname(os.path.abspath(__file__)))
 PROBLEMS = os.path.join(TOP, "problems")
 SECONDS = 120
+STACK = 256 << 10
 
 # For the first words of a reason: the status, and the word of the first line.
 REASONS = {
@@ -171,6 +174,12 @@ def row_examples(program):
 # What is compared.
 
 
+def run(words, **streams):
+    """Runs a program with these words to its end, under the small stack."""
+    small = lambda: resource.setrlimit(resource.RLIMIT_STACK, (STACK, resource.getrlimit(resource.RLIMIT_STACK)[1]))
+    return subprocess.run(words, timeout=SECONDS, preexec_fn=small, **streams)
+
+
 def first_difference(expected, found):
     """In words: the first line that is another one."""
     ours, theirs = expected.split(b"\n"), found.split(b"\n")
@@ -186,7 +195,7 @@ def difference(example):
         given.write(example.given)
         given.seek(0)
         try:
-            ran = subprocess.run([example.program, *example.words], stdin=given, capture_output=True, timeout=SECONDS)
+            ran = run([example.program, *example.words], stdin=given, capture_output=True)
         except subprocess.TimeoutExpired:
             return f"no end in {SECONDS} seconds"
     if ran.stdout != example.output:
@@ -200,7 +209,7 @@ def difference(example):
 
 
 def written(program, *words):
-    return subprocess.run([program, *words], stdin=subprocess.DEVNULL, capture_output=True, timeout=SECONDS).stdout
+    return run([program, *words], stdin=subprocess.DEVNULL, capture_output=True).stdout
 
 
 def device_differences(program):
@@ -209,14 +218,14 @@ def device_differences(program):
     if not alone.startswith(b"% SZS status ") or written(program, "--make", "7", "--workers", "8") != alone:
         yield "a made problem comes out otherwise with other workers"
     folder = os.open(TOP, os.O_RDONLY)
-    ran = subprocess.run([program], stdin=folder, capture_output=True, timeout=SECONDS)
+    ran = run([program], stdin=folder, capture_output=True)
     os.close(folder)
     if (ran.returncode, ran.stdout) != (5, b"% SZS status OSError for stdin\n% reason read\n"):
         yield f"standard input that is a folder: status 5 is expected, found {ran.returncode} and {ran.stdout!r}"
     if os.path.exists("/dev/full"):
         with open("/dev/full", "wb") as full:
             for words in ([], ["x"], ["--make", "7"]):
-                ran = subprocess.run([program, *words], stdin=subprocess.DEVNULL, stdout=full, timeout=SECONDS)
+                ran = run([program, *words], stdin=subprocess.DEVNULL, stdout=full)
                 if ran.returncode != 6:
                     yield f"standard output that is full, with the words {words}: status 6 is expected, found {ran.returncode}"
 

@@ -126,6 +126,14 @@ def chains(size):
     yield f"~p(c{size})"
 
 
+@family([10, 30, 100], UNSATISFIABLE, ["--depth", "64", "--list", "50000000"])
+def nested(size):
+    """A chain of `size` equations, each of which nests 63 symbols more: the refutation's terms are up to 63 `size` deep,
+    and weigh about 126 `size`^2 together. With 600, terms of depth 37,800 weigh some 45 million."""
+    yield f"e(X,{'f(' * 63}X{')' * 63})"
+    yield any_of(f"~e(X{it},X{it + 1})" for it in range(size))
+
+
 @family([4, 8, 16, 32, 60, 100, 140], SATISFIABLE, ["--literals", "65535"])
 def closures(size):
     """The transitive closure of a path of `size` edges, which has `size` (`size` + 1) / 2 pairs. Each clause has a
