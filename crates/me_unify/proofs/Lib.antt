@@ -1,6 +1,7 @@
 pub mod Adding
 pub mod Bound
 pub mod Cut
+pub mod Differing
 pub mod Filling
 pub mod Forest
 pub mod Frames

@@ -7,4 +7,5 @@ pub mod Marks
 pub mod Measured
 pub mod Nodes
 pub mod Ordered
+pub mod Tops
 pub mod Walked

@@ -85,6 +85,9 @@ impl Bindings {
         ensures no { IfOk result (λ answer. answer ≡ false → self.new ≡ self.old) }
         ensures err { OnErr result (self.new ≡ self.old) }
     {
+        if self.arena.are_apart(ls, left, rs, right) {
+            return Ok(false);
+        }
         self.steps.reserve(1)?;
         let nodes = self.arena.nodes.len();
         let links = self.arena.links.froms.len();

@@ -4,6 +4,7 @@
 //! no term is written out: a chain of terms that double costs what its nodes cost.
 #![tactic(auto)]
 
+mod apart;
 mod arena;
 mod bindings;
 mod closure;

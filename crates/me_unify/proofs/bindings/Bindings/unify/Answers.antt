@@ -60,3 +60,9 @@ returns-in-None-clause-exact c =
     let P : List Equation → Type 0 = λ z. IsSolvable (z ++ equation c.args.ls c.args.left.now c.args.rs c.args.right.now ∷ []) in
     let never = not_solvable c.self.inside.arena.nodes c.self.inside.arena.links c.self.inside.steps.items (equation c.args.ls c.args.left.now c.args.rs c.args.right.now) c.self.invariant (c.in_ok-sides.ensures.none c.in-None.is) in
     (λ z. cc, λ s. absurd (never (subst P (sym c.self.view_is) s)))
+
+pub returns-then-are_apart-clause-exact : goal.returns-then-are_apart-clause-exact
+returns-then-are_apart-clause-exact c =
+    let P : List Equation → Type 0 = λ z. IsSolvable (z ++ equation c.args.ls c.args.left.now c.args.rs c.args.right.now ∷ []) in
+    let never = not_solvable c.self.inside.arena.nodes c.self.inside.arena.links c.self.inside.steps.items (equation c.args.ls c.args.left.now c.args.rs c.args.right.now) c.self.invariant (c.are_apart.ensures c.if-are_apart.true) in
+    (λ z. cc, λ s. absurd (never (subst P (sym c.self.view_is) s)))
