@@ -49,6 +49,18 @@ measured_more h xs i x all one next lt is a m w d g =
       ground = g ∙ ((λ j. a.ground j && m.ground j) ∙ sym (ground_push (map h (take i xs)) (h x)));
     })
 
+-- one term more of a list
+pub measured_next : (ts : List TermValue) (k : ℕ) (t : TermValue) (all one next : Measure) → slice_get ts k ≡ Some t → AreMeasured (arguments_of (take k ts)) all → IsMeasure t one
+    → next.weight ≡ min (all.weight + one.weight) 18446744073709551615 → next.depth ≡ max all.depth one.depth → next.ground ≡ (all.ground && one.ground) → AreMeasured (arguments_of (take (k + 1) ts)) next
+measured_next ts k t all one next at a m w d g =
+    let list : take (k + 1) ts ≡ take k ts ++ t ∷ [] = take_more ts k t (slice_get_within ts k t at) ∙ ap (λ z. take k ts ++ z ∷ []) (get_or_from_slice_get ts k t t at) in
+    let P : List TermValue → Type 0 = λ z. AreMeasured (arguments_of z) next in
+    subst P (sym list) (record {
+      weight = omega (arith, w, a.weight, m.weight, weights_push (take k ts) t);
+      depth = omega (arith, d, a.depth, m.depth, depths_push (take k ts) t);
+      ground = g ∙ ((λ j. a.ground j && m.ground j) ∙ sym (ground_push (take k ts) t));
+    })
+
 -- what is held after a write
 held_after : (h : Colouring) (measures : List Measure) (x y : ℕ) (m : Measure) → x < length measures → IsMeasure (h x) m → IsHeld h measures y → IsHeld h (set measures x m) y
 held_after h measures x y m lt new old n at =
@@ -116,6 +128,10 @@ held_all nodes l measures list i q past held h reading x w =
 -- ---- one node
 pub var_measure : (t : TermValue) (y : ℕ) (m : Measure) → t ≡ tree.Var y → m.weight ≡ 1 → m.depth ≡ 1 → m.ground ≡ false → IsMeasure t m
 var_measure t y m e w d g = rw e (record { weight = w; depth = d; ground = g })
+
+pub constant_measure : (t : TermValue) (f : ℕ) (h : Colouring) (xs : List ℕ) → t ≡ tree.App f (coloured h xs) → length xs ≡ 0 → IsMeasure t (record { weight = 1; depth = 1; ground = true })
+constant_measure t f h [] e none = rw e (record { weight = refl; depth = refl; ground = refl })
+constant_measure t f h (x ∷ xs) e none = absurd (omega (arith, none))
 
 pub app_measure : (t : TermValue) (f : ℕ) (ts : Arguments) (all m : Measure) → t ≡ tree.App f ts → AreMeasured ts all → m.weight ≡ min (all.weight + 1) 18446744073709551615 → m.depth ≡ min (all.depth + 1) 18446744073709551615 → m.ground ≡ all.ground → IsMeasure t m
 app_measure t f ts all m e a w d g = rw e (record { weight = omega (arith, w, a.weight); depth = omega (arith, d, a.depth); ground = g ∙ a.ground })

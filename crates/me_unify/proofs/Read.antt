@@ -53,7 +53,7 @@ ground_by a b r q false true to from x y =
     let z : are_ground b.args ≡ are_ground a.args = ap (λ (c : AtomValue). are_ground c.args) same in
     cc
 
-measured_same : (a b : AtomValue) (m : Measure) → Variants a b → AreMeasured a.args m → AreMeasured b.args m
+pub measured_same : (a b : AtomValue) (m : Measure) → Variants a b → AreMeasured a.args m → AreMeasured b.args m
 measured_same a b m v q = record {
   weight = let w : weights a.args ≡ weights b.args = weight_same a b v in rw (sym w) q.weight;
   depth = let w : depths a.args ≡ depths b.args = depth_same a b v in rw (sym w) q.depth;

@@ -1,9 +1,9 @@
 -- What is read off the links is what each most general unifier has.
 use Rattle.std.proofs.Common.{arith, ◌≡◌, ℕ, ◌<◌, List, length, slice_get, get_or, Some, refl, ap, sym, ◌∙◌}
 use Rattle.std.proofs.Common.{Vec, Global}
-use Rattle.me_terms.specs.Terms.{TermValue, AtomValue}
+use Rattle.me_terms.specs.Terms.{TermValue, AtomValue, Arguments}
 use Rattle.me_terms.specs.Terms as tree
-use Rattle.me_terms.specs.Substitutions.{Substitution, Family, apply_term, apply_atom, apply_literal}
+use Rattle.me_terms.specs.Substitutions.{Substitution, Family, apply_term, apply_arguments, apply_atom, apply_literal}
 use Rattle.me_terms.specs.Remainder.{is_variable}
 use Rattle.me_terms.specs.Measures.{canonical_literal}
 use Rattle.me_terms.specs.Variables.{first_ones, variables_of, place_of}
@@ -22,12 +22,14 @@ use Rattle.me_unify.specs.Nodes.{IsArena}
 use Rattle.me_unify.specs.Ordered.{of_node, IsSettled}
 use Rattle.me_unify.specs.Equations.{Equation, IsMostGeneral}
 use Rattle.me_unify.specs.Marks.{step_equations, AreBound, IsSolved}
+use Rattle.me_unify.specs.declared.measure.Measure.{Measure}
+use Rattle.me_unify.specs.Measured.{AreMeasured}
 use Rattle.me_unify.specs.Left.{term_at, IsRead}
 use Rattle.me_unify.proofs.Solved.{settled_free, settled_respects}
 use Rattle.me_unify.proofs.MostGeneral.{family_of, family_others, settled_fits}
 use Rattle.me_unify.proofs.Ranked.{settled_by}
 use Rattle.me_unify.proofs.Bound.{general_by}
-use Rattle.me_unify.proofs.Read.{turned}
+use Rattle.me_unify.proofs.Read.{turned, measured_same}
 
 settled_of : (nodes : List Node) (l : Links) → IsArena nodes l → IsSolved nodes l → (rank : ℕ → ℕ) × IsSettled nodes l rank (length nodes)
 settled_of nodes l a s = settled_by nodes l a s.0 s.1.0 s.1.1.0 s.1.1.1
@@ -101,6 +103,15 @@ canonical_literal_same equations u v space l p q =
     record { there = there.0; back = back.0; to = turned u v there.0 space l.atom there.1; from = turned v u back.0 space l.atom back.1 } in
     let same = canonical_same (apply_atom (u space) l.atom) (apply_atom (v space) l.atom) variants in
     λ i. record { positive = l.positive; atom = same i }
+
+pub measured_general : (equations : List Equation) (u v : Family) (space : ℕ) (args : Arguments) (m : Measure) → IsMostGeneral equations u → IsMostGeneral equations v
+    → AreMeasured (apply_arguments (u space) args) m → AreMeasured (apply_arguments (v space) args) m
+measured_general equations u v space args m p q measured =
+    let there = p.most_general v q.solves in
+    let back = q.most_general u p.solves in
+    let variants : Variants (apply_atom (u space) (record { pred = 0; args = args })) (apply_atom (v space) (record { pred = 0; args = args })) =
+    record { there = there.0; back = back.0; to = turned u v there.0 space (record { pred = 0; args = args }) there.1; from = turned v u back.0 space (record { pred = 0; args = args }) back.1 } in
+    measured_same (apply_atom (u space) (record { pred = 0; args = args })) (apply_atom (v space) (record { pred = 0; args = args })) m variants measured
 
 -- ---- constants
 pub constants_after : (c0 : ℕ) (l : Literal) → apply_literal (λ x. constant c0) (canonical_literal l) ≡ apply_literal (λ x. constant c0) l

@@ -12,7 +12,7 @@ ghost use Rattle.me_unify.specs.Equations.{equation, IsSolvable, IsMostGeneral};
 
 use crate::arena::Arena;
 use crate::constants::filled_literal;
-use crate::measure::Measure;
+use crate::measure::{Measure, of_atom};
 use crate::step::Step;
 use me_terms::{Atom, Literal};
 use std::alloc::{AllocError, Global};
@@ -107,9 +107,8 @@ impl Bindings {
         }
     }
 
-    /// What is counted of an atom with the variables of a space, under the unifier of the equations: its
-    /// weight, its depth and whether it is ground. No term is written out, and the equations stay.
-    pub fn measure(&mut self, space: u32, atom: &Atom) -> Result<Measure, AllocError>
+    /// The same as `measure`, by nodes in an order.
+    fn measure_in_order(&mut self, space: u32, atom: &Atom) -> Result<Measure, AllocError>
         ensures kept { self.new ≡ self.old }
         ensures measure { IfOk result (λ m. (u : Family) → IsMostGeneral self.old u → IsAtomMeasure (apply_atom (u space) atom.now) m) }
     {
@@ -118,11 +117,19 @@ impl Bindings {
         let result = self.arena.measure_terms(self.alloc, space, &atom.args);
         self.arena.cut(nodes, links);
         let all = result?;
-        Ok(Measure {
-            weight: all.weight.saturating_add(1),
-            depth: all.depth,
-            ground: all.ground,
-        })
+        Ok(of_atom(all))
+    }
+
+    /// What is counted of an atom with the variables of a space, under the unifier of the equations: its
+    /// weight, its depth and whether it is ground. No term is written out, and the equations stay.
+    pub fn measure(&mut self, space: u32, atom: &Atom) -> Result<Measure, AllocError>
+        ensures kept { self.new ≡ self.old }
+        ensures measure { IfOk result (λ m. (u : Family) → IsMostGeneral self.old u → IsAtomMeasure (apply_atom (u space) atom.now) m) }
+    {
+        match self.arena.flat_terms(space, &atom.args) {
+            Some(all) => Ok(of_atom(all)),
+            None => self.measure_in_order(space, atom),
+        }
     }
 
     /// Whether what a variable of a space stands for is still a variable. It takes no memory.

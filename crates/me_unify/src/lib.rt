@@ -10,6 +10,7 @@ mod bindings;
 mod closure;
 mod constants;
 mod equate;
+mod flat;
 mod links;
 mod measure;
 mod node;

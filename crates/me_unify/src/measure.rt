@@ -1,10 +1,12 @@
 //! Weight, depth and groundness of the terms of nodes, each node once, with no term written out.
 //!
 //! The counts stop at 2^64 - 1.
-ghost use Rattle.std.specs.Prelude.{◌≡◌, ℕ, ◌<◌, IfOk, length, slice_index};
+ghost use Rattle.std.specs.Prelude.{◌≡◌, ℕ, ◌<◌, ◌+◌, ◌&&◌, max, IfOk, length, slice_index};
+ghost use Rattle.me_terms.specs.Terms.{AtomValue};
+ghost use Rattle.me_terms.specs.Measures.{capped};
 ghost use Rattle.me_unify.specs.Linked.{IsForest, Colouring, AreNodes, coloured};
 ghost use Rattle.me_unify.specs.Ordered.{IsSequence};
-ghost use Rattle.me_unify.specs.Measured.{IsMeasure, AreMeasured, IsReading, IsHeld, IsHeldBelow};
+ghost use Rattle.me_unify.specs.Measured.{IsMeasure, AreMeasured, IsAtomMeasure, IsReading, IsHeld, IsHeldBelow};
 
 use crate::links::{FREE, Links};
 use crate::node::Node;
@@ -19,29 +21,59 @@ pub struct Measure {
     pub ground: bool,
 }
 
-const VARIABLE: Measure = Measure {
+/// Of a variable.
+pub(crate) const VARIABLE: Measure = Measure {
     weight: 1,
     depth: 1,
     ground: false,
 };
+
+/// Of a function without arguments.
+pub(crate) const CONSTANT: Measure = Measure {
+    weight: 1,
+    depth: 1,
+    ground: true,
+};
+
+/// Of no terms.
+pub(crate) const NOTHING: Measure = Measure {
+    weight: 0,
+    depth: 0,
+    ground: true,
+};
+
+/// Of the terms that two measures are of: the sum of the weights, the greater depth, and whether both are ground.
+pub(crate) fn both(one: Measure, other: Measure) -> Measure
+    ensures weight { result.weight ≡ capped (one.weight + other.weight) }
+    ensures depth { result.depth ≡ max one.depth other.depth }
+    ensures ground { result.ground ≡ (one.ground && other.ground) }
+{
+    Measure {
+        weight: one.weight.saturating_add(other.weight),
+        depth: one.depth.max(other.depth),
+        ground: one.ground && other.ground,
+    }
+}
+
+/// Of an atom with such arguments.
+pub(crate) fn of_atom(arguments: Measure) -> Measure
+    ensures { (a : AtomValue) → AreMeasured a.args arguments → IsAtomMeasure a result }
+{
+    Measure {
+        weight: arguments.weight.saturating_add(1),
+        depth: arguments.depth,
+        ground: arguments.ground,
+    }
+}
 
 /// Of the terms of several nodes: the sum of their weights, the greatest depth, and whether all are ground.
 pub(crate) fn measure_all(measures: &[Measure], xs: &[usize]) -> Measure
     requires within { (i : ℕ) → i < length xs.now → slice_index xs.now i < length measures.now }
     ensures { (h : Colouring) → ((i : ℕ) → i < length xs.now → IsHeld h measures.now (slice_index xs.now i)) → AreMeasured (coloured h xs.now) result }
 {
-    let mut all = Measure {
-        weight: 0,
-        depth: 0,
-        ground: true,
-    };
+    let mut all = NOTHING;
     for x in xs {
-        let one = measures[*x];
-        all = Measure {
-            weight: all.weight.saturating_add(one.weight),
-            depth: all.depth.max(one.depth),
-            ground: all.ground && one.ground,
-        };
+        all = both(all, measures[*x]);
     }
     all
 }
