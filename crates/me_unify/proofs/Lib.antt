@@ -6,6 +6,7 @@ pub mod Filling
 pub mod Forest
 pub mod Frames
 pub mod Indexed
+pub mod Later
 pub mod Made
 pub mod Measures
 pub mod MoreNodes

@@ -49,6 +49,16 @@ pub record IsSettled (nodes : List Node) (l : Links) (rank : ℕ → ℕ) (limit
 abbrev pub HasOrder : List Node → Links → Type 0
 HasOrder nodes l = (rank : ℕ → ℕ) × ((limit : ℕ) × IsSettled nodes l rank limit)
 
+-- The ranks, all below the limit, fall from each node to what it leads to, but where the node's link is the one of number mark or a later one.
+pub record FallsBefore (nodes : List Node) (l : Links) (mark : ℕ) (rank : ℕ → ℕ) (limit : ℕ) : Type 0 where
+  pub below : (x : ℕ) → x < length nodes → rank x < limit
+  pub linked : (x : ℕ) → x < length nodes → slice_index l.place.items x < mark → rank (slice_index l.tos.items (slice_index l.place.items x)) < rank x
+  pub apps : (x : ℕ) → x < length nodes → slice_index l.place.items x ≡ NONE → (f : ℕ) (args : Vec ℕ Global) → slice_get nodes x ≡ Some (node.App f args)
+      → (i : ℕ) → i < length args.items → rank (slice_index args.items i) < rank x
+
+abbrev pub HasOrderBefore : List Node → Links → ℕ → Type 0
+HasOrderBefore nodes l mark = (rank : ℕ → ℕ) × ((limit : ℕ) × FallsBefore nodes l mark rank limit)
+
 -- The nodes in the order of the ranks, which are their places in the list.
 pub record IsSequence (nodes : List Node) (l : Links) (list : List ℕ) : Type 0 where
   pub rank : ℕ → ℕ

@@ -90,6 +90,7 @@ impl Arena {
         requires arena { IsArena self.old.nodes self.old.links }
         requires left { x < length self.old.nodes }
         requires right { y < length self.old.nodes }
+        requires order { HasOrder self.old.nodes self.old.links }
         ensures arena { IsArena self.new.nodes self.new.links }
         ensures nodes { self.new.nodes ≡ self.old.nodes }
         ensures more { IsLonger self.old.links self.new.links }
@@ -185,6 +186,7 @@ impl Arena {
         right: &Atom,
     ) -> Result<Option<Sides>, AllocError>
         requires arena { IsArena self.old.nodes self.old.links }
+        requires solution { IsSolved self.old.nodes self.old.links }
         ensures arena { IsArena self.new.nodes self.new.links }
         ensures grown { KeepsNodes self.old.nodes self.new.nodes }
         ensures more { IsLonger self.old.links self.new.links }
@@ -224,6 +226,7 @@ impl Arena {
         right: &Atom,
     ) -> Result<Option<Sides>, AllocError>
         requires arena { IsArena self.old.nodes self.old.links }
+        requires solution { IsSolved self.old.nodes self.old.links }
         ensures arena { IsArena self.new.nodes self.new.links }
         ensures some { IfOk result (λ answer. IfSome answer (λ sides. IsPosed self.old.nodes self.old.links self.new.nodes self.new.links (equation ls left.now rs right.now) sides)) }
         ensures none { IfOk result (λ answer. answer ≡ None → AreApart self.old.nodes self.old.links (equation ls left.now rs right.now)) }

@@ -26,6 +26,7 @@ impl Links {
         requires right { y < length self.old.place.items }
         requires directed { AreDirected nodes.now self.old }
         requires closed { AreClosed nodes.now self.old (length self.old.froms.items) }
+        requires order { HasOrder nodes.now self.old }
         ensures forest { IsForest self.new }
         ensures size { length self.new.place.items ≡ length self.old.place.items }
         ensures directed { AreDirected nodes.now self.new }
@@ -40,7 +41,7 @@ impl Links {
         if !self.close(nodes, mark)? {
             return Ok(false);
         }
-        self.is_ordered(alloc, nodes)
+        self.is_ordered(alloc, nodes, mark)
     }
 
     /// Adds what makes two nodes equal, or says that nothing does, and then the links are as before.
@@ -58,6 +59,7 @@ impl Links {
         requires right { y < length self.old.place.items }
         requires directed { AreDirected nodes.now self.old }
         requires closed { AreClosed nodes.now self.old (length self.old.froms.items) }
+        requires order { HasOrder nodes.now self.old }
         ensures forest { IsForest self.new }
         ensures size { length self.new.place.items ≡ length self.old.place.items }
         ensures directed { AreDirected nodes.now self.new }

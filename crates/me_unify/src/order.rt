@@ -5,7 +5,7 @@
 ghost use Rattle.std.specs.Prelude.{◌≡◌, IfOk, IfSome, IsTrue, false, None, length};
 ghost use Rattle.me_terms.specs.Substitutions.{Family};
 ghost use Rattle.me_unify.specs.Linked.{IsForest, Respects, Colouring, IsColoured, AreNodes, AreClosed};
-ghost use Rattle.me_unify.specs.Ordered.{HasOrder, IsSequence};
+ghost use Rattle.me_unify.specs.Ordered.{HasOrder, HasOrderBefore, IsSequence};
 
 use crate::links::Links;
 use crate::node::Node;
@@ -38,18 +38,28 @@ impl Links {
         Ok(Some(list))
     }
 
-    /// Whether the nodes stand in an order. False where nothing makes linked nodes equal.
-    pub(crate) fn is_ordered(&self, alloc: Global, nodes: &[Node]) -> Result<bool, AllocError>
+    /// Whether the nodes stand in an order, as they do without the links from `mark` on. False where nothing
+    /// makes linked nodes equal. It comes to those nodes alone that the links from `mark` on lead to.
+    pub(crate) fn is_ordered(
+        &self,
+        alloc: Global,
+        nodes: &[Node],
+        mark: usize,
+    ) -> Result<bool, AllocError>
         requires forest { IsForest self.now }
         requires nodes { length nodes.now ≡ length self.now.place.items }
         requires fit { AreNodes nodes.now }
         requires closed { AreClosed nodes.now self.now (length self.now.froms.items) }
+        requires before { HasOrderBefore nodes.now self.now mark }
         ensures yes { IfOk result (λ answer. IsTrue answer → HasOrder nodes.now self.now) }
         ensures no { IfOk result (λ answer. answer ≡ false → (t : Family) (h : Colouring) → IsColoured nodes.now t h → ¬ Respects self.now h) }
     {
-        match self.ordered(alloc, nodes)? {
-            Some(_) => Ok(true),
-            None => Ok(false),
+        let mut walk = Walk::new(alloc, self, nodes)?;
+        for k in mark..self.froms.len() {
+            if !walk.visit(self, nodes, self.froms[k])? {
+                return Ok(false);
+            }
         }
+        Ok(true)
     }
 }

@@ -1,6 +1,7 @@
 use Rattle.std.proofs.Common.{◌≡◌, ◌∙◌}
 use Rattle.me_unify.proofs.Made.{fits_less, grown_twice, grown_within}
 use Rattle.me_unify.proofs.Posed.{posed, apart_by}
+use Rattle.me_unify.proofs.Later.{order_grown}
 use Rattle.me_unify.proofs.arena.Arena.try_pose.Goals as goal
 
 pub equate-requires-clause-left : goal.equate-requires-clause-left
@@ -24,3 +25,9 @@ returns-else-equal-clause-none c z =
     (c.add_atom-2.ensures.froms ∙ c.add_atom.ensures.froms) (c.add_atom-2.ensures.tos ∙ c.add_atom.ensures.tos)
     (λ t h f. c.in_ok-left.ensures.made t h (fits_less c.add_atom.new.self.nodes c.add_atom-2.new.self.nodes t h c.add_atom-2.ensures.grown f)) (λ t h f. c.in_ok-right.ensures.made t h f)
     (c.in_ok-equal.ensures.no c.if-equal.false)
+
+pub equate-requires-clause-order : goal.equate-requires-clause-order
+equate-requires-clause-order c =
+    order_grown c.args.self.now.nodes c.args.self.now.links c.add_atom-2.new.self.nodes c.add_atom-2.new.self.links c.requires.arena c.requires.solution c.add_atom-2.ensures.arena
+    (grown_twice c.args.self.now.nodes c.add_atom.new.self.nodes c.add_atom-2.new.self.nodes c.add_atom.ensures.grown c.add_atom-2.ensures.grown)
+    (c.add_atom-2.ensures.froms ∙ c.add_atom.ensures.froms) (c.add_atom-2.ensures.tos ∙ c.add_atom.ensures.tos)
