@@ -1,1 +1,2 @@
 pub mod Owed
+mod Fixed

@@ -1,5 +1,6 @@
 -- Which entries a clause asserts.
 use Rattle.std.specs.Prelude.{◌≡◌, ℕ, ◌⊎◌, List, [], slice_get, Some}
+use Rattle.me_terms.specs.Terms.{AtomValue}
 use Rattle.me_terms.specs.Substitutions.{Family, Generalizes, IsVariant}
 use Rattle.me_terms.specs.Measures.{canonical_literal}
 use Rattle.me_terms.specs.Values.{ProblemValue, ClauseValue, EntryValue}
@@ -39,6 +40,10 @@ MakesNeedless e l kind =
 -- At position k an entry is visible that does.
 abbrev pub CoversAt : Context → ℕ → Literal → Kind → Type 0
 CoversAt context k l kind = (e : EntryValue) × IsVisible context k e × MakesNeedless e l kind
+
+-- At position k a Universal entry is visible, of either sign, that generalizes the atom.
+abbrev pub FixesAt : Context → ℕ → AtomValue → Type 0
+FixesAt context k a = (e : EntryValue) × IsVisible context k e × (e.kind ≡ Universal) × Generalizes e.atom (Of a)
 
 -- The literal may be asserted with this kind, as far as the entries of the context say.
 pub record MayBeAsserted (context : Context) (l : Literal) (kind : Kind) : Type 0 where
