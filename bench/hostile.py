@@ -1,25 +1,28 @@
 #!/usr/bin/env python3
 """Runs the built program on what no user would send, and looks at how each run ends.
 
-usage: bench/hostile.py [--count N] [--seed S] [--program FILE]
+usage: bench/hostile.py [--count N] [--seed S] [--workers N] [--parts PART,..] [--jobs N] [--keep FOLDER] [--program FILE]
 
-Damaged files: N (20000) that are made of the files of problems/ and of random bytes, cut, doubled, with bytes flipped,
-dropped or nested, most of at most 4 KiB and a few of 64 MiB. Words: every option out of its range, without a value, twice,
-and words that are none. Memory: limits of the address space from the least in which the program starts to ample. Devices:
-a full one, a closed one, a reader that goes away, a folder as input, an input that ends early.
+The parts, all of them unless some are named:
 
-Each run has to end by a status of the table of docs/PROGRAM.md with the first line that belongs to it, with the whole
-text of a refusal and nothing else, and none by a signal or not at all. Prints how many ended by each status, and what was
-wrong; ends with 1 where something was.
+    damaged     N (20000) files that are made of those of problems/ and of random bytes, cut, doubled, with bytes flipped,
+                dropped or nested, of at most 4 KiB
+    long        files of some 64 MiB: one that is repeated, one that is nested, and some with bytes flipped, cut or doubled
+    words       every option out of its range, without a value, twice, and words that are none
+    memory      limits of the address space from the least in which the program starts to ample
+    devices     outputs that are full, closed or not read, inputs that are closed, a folder, or end early
+
+With --workers each call that has a search gets that option. Each run has to end by a status of the table of
+docs/PROGRAM.md with the first line that belongs to it, with the whole text of a refusal and nothing else, and none by a
+signal or not at all. Prints how many ended by each status, and what was wrong, with the file that shows it in the folder
+of --keep; ends with 1 where something was.
 """
 import argparse
 import os
 import random
 import re
-import resource
 import subprocess
 import sys
-import tempfile
 from collections import Counter
 from concurrent.futures import ThreadPoolExecutor
 
@@ -46,11 +49,13 @@ SUMMARY = re.compile(rb"% SZS status \w+ for \S+\n(% reason \w+\n)?% clauses \d+
 
 
 def wrong_with(status, output, statuses=range(8)):
-    """What is wrong with how a run ended, or None."""
+    """What is wrong with how a run ended, or None; the output is None where nobody saw it."""
     if status < 0:
         return f"signal {-status}"
     if status not in statuses:
         return f"status {status}"
+    if output is None:
+        return None
     if status == 0 and not ANSWER.fullmatch(output) and not SUMMARY.fullmatch(output):
         return f"status 0 with {output[:80]!r}"
     if status in WORDS:
@@ -61,17 +66,26 @@ def wrong_with(status, output, statuses=range(8)):
 
 
 def run(program, words, given, limit=None, stdout=subprocess.PIPE):
-    def limited():
-        if limit:
-            resource.setrlimit(resource.RLIMIT_AS, (limit, limit))
-
+    """How a call ends under a limit of the address space in bytes: its status, or None where it does not end, and its output."""
+    command = [program, *words]
+    if limit:
+        command = ["prlimit", f"--as={limit}", *command]
     try:
-        done = subprocess.run(
-            [program, *words], input=given, stdout=stdout, stderr=subprocess.DEVNULL, timeout=SECONDS, preexec_fn=limited if limit else None
-        )
+        done = subprocess.run(command, input=given, stdout=stdout, stderr=subprocess.DEVNULL, timeout=SECONDS)
     except subprocess.TimeoutExpired:
         return None, b""
     return done.returncode, done.stdout or b""
+
+
+def run_by_shell(script, program, words, given=b""):
+    """The same of a script, in which "$@" is the call."""
+    command = ["bash", "-c", script, "bash", program, *words]
+    try:
+        done = subprocess.run(command, input=given, stdout=subprocess.PIPE, stderr=subprocess.DEVNULL, timeout=SECONDS)
+    except subprocess.TimeoutExpired:
+        return None, b""
+    # (bash tells a signal as 128 and its number)
+    return (128 - done.returncode if done.returncode > 128 else done.returncode), done.stdout
 
 
 # What is sent.
@@ -113,16 +127,29 @@ def damaged(draw, files):
     return bytes(data[:4096])
 
 
-def long_files():
+def long_files(draw):
     most = 1 << 26
     clause = b"cnf(a,axiom,p(X)|~q(f(X,b))).\n"
+    full = (clause * (most // len(clause) + 1))[:most]
     yield b"%" * most
     yield b"(" * most
     yield b" " * (most + 1)
-    yield (clause * (most // len(clause) + 1))[:most]
+    yield full
     yield b"cnf(a,axiom,p(" + b"f(" * 1000000 + b"a"
+    yield b"cnf(a,axiom,p," + b"[(" * (most // 2 - 7)
     yield b"cnf(a,axiom," + b"p|" * 4097 + b"p)."
     yield b"'" + b"a" * (most - 1)
+    yield b"/*" + b"*" * (most - 2)
+    yield bytes(draw.randrange(256) for _ in range(1 << 16)) * (1 << 10)
+    for _ in range(4):
+        data = bytearray(full)
+        for _ in range(draw.randrange(1, 4)):
+            data[draw.randrange(len(data) // 2, len(data))] = draw.randrange(256)
+        yield bytes(data)
+    for _ in range(2):
+        yield full[: draw.randrange(len(full) // 2, len(full))]
+    at = draw.randrange(len(full) // 2)
+    yield (full[:at] + full[at // 2 :])[:most]
 
 
 OPTIONS = {
@@ -151,64 +178,126 @@ def refused_words():
         yield [word]
 
 
+# How it ends.
+
+
+class Report:
+    """Counts how runs end, and keeps what was wrong."""
+
+    def __init__(self, folder):
+        self.folder, self.wrong = folder, []
+
+    def tell(self, title, ends):
+        """Prints how many of `ends` had each status: the call, what it read, its status and output, and the statuses that are right."""
+        counts = Counter()
+        for what, given, status, output, statuses in ends:
+            counts["no end" if status is None else status] += 1
+            fault = "does not end" if status is None else wrong_with(status, output, statuses)
+            if fault:
+                self.wrong.append(f"{title}: {fault}: {what!r:.120} {self.kept(given)}")
+        by_status = ", ".join(f"{it} {counts[it]}" for it in sorted(counts, key=str))
+        print(f"{title}: {sum(counts.values())} runs; by status: {by_status}", flush=True)
+
+    def kept(self, given):
+        """The name of the file in which what was read is kept, or its first bytes."""
+        if not self.folder:
+            return f"{given!r:.120}"
+        os.makedirs(self.folder, exist_ok=True)
+        path = os.path.join(self.folder, f"wrong{len(self.wrong)}.p")
+        with open(path, "wb") as it:
+            it.write(given)
+        return path
+
+
+def damaged_ends(program, pool, draw, count, words):
+    words = ["--literals", "200", *words]
+    files = stored()
+    sent = [damaged(draw, files) for _ in range(count)]
+    for given, end in zip(sent, pool.map(lambda it: run(program, words, it), sent)):
+        yield words, given, *end, (0, 2, 3, 4)
+
+
+def long_ends(program, draw, words):
+    words = ["--literals", "200", *words]
+    for given in long_files(draw):
+        yield words, given, *run(program, words, given), (0, 2, 3, 4)
+
+
+def words_ends(program, pool):
+    sent = list(refused_words())
+    for words, end in zip(sent, pool.map(lambda it: run(program, it, b""), sent)):
+        yield words, b"", *end, (1,)
+
+
+def least_memory(program, words):
+    """The least limit in which the program starts."""
+    return next(it for it in range(1 << 20, 1 << 30, 1 << 18) if run(program, ["--make", "1", *words], b"", it)[0] in range(8))
+
+
+def memory_ends(program, pool, least, words):
+    limits = [least + (step << 16) for step in range(0, 400, 3)]
+    calls = [(["--make", str(seed), *words], b"") for seed in range(3)]
+    calls += [(["--literals", "200", *words], it) for it in stored()[::12]]
+    cases = [(words, given, limit) for words, given in calls for limit in limits]
+    for (words, given, limit), end in zip(cases, pool.map(lambda it: run(program, *it), cases)):
+        yield (f"--as={limit}", *words), given, *end, range(8)
+
+
+SMALL = b"cnf(a,axiom,p(X)|q(X)).\ncnf(b,axiom,~p(a)).\n"
+
+
+def device_ends(program, words):
+    made = [*words, "--make", "7"]
+    for call, given in ((words, SMALL), (made, b""), ([*words, "x"], b""), (words, b"fof"), (words, SMALL[:20])):
+        with open("/dev/full", "wb") as full:
+            yield "a full device", given, run(program, call, given, stdout=full)[0], None, (6,)
+        yield "a closed output", given, run_by_shell('"$@" >&-', program, call, given)[0], None, (6,)
+        yield "an output that cannot be written", given, run_by_shell('"$@" 1</dev/null', program, call, given)[0], None, (6,)
+        away = 'set -o pipefail; "$@" | true; exit ${PIPESTATUS[0]}'
+        yield "a reader that goes away", given, run_by_shell(away, program, call, given)[0], None, range(7)
+    yield "a folder", b"", *run_by_shell(f"\"$@\" < '{TOP}'", program, words), (5,)
+    yield "a closed input", b"", *run_by_shell('"$@" <&-', program, words), (0, 5)
+    yield "an input that cannot be read", b"", *run_by_shell('"$@" 0>/dev/null', program, words), (5,)
+    for size in range(len(SMALL) + 1):
+        statuses = (0,) if size in (0, len(SMALL) - 1, len(SMALL), SMALL.index(b"\n"), SMALL.index(b"\n") + 1) else (2, 3)
+        yield "an input that ends early", SMALL[:size], *run(program, words, SMALL[:size]), statuses
+    slow = "(printf 'cnf(a,axiom,p'; sleep 0.1; printf '(X)|q(X).') | \"$@\""
+    yield "a writer that stops", b"", *run_by_shell(slow, program, words), (2,)
+
+
+PARTS = ("damaged", "long", "words", "memory", "devices")
+
+
 def main():
     parser = argparse.ArgumentParser(description=__doc__.split("\n")[0])
     parser.add_argument("--count", type=int, default=20000)
     parser.add_argument("--seed", type=int, default=1)
+    parser.add_argument("--workers")
+    parser.add_argument("--parts", default=",".join(PARTS))
+    parser.add_argument("--jobs", type=int, default=os.cpu_count())
+    parser.add_argument("--keep")
     parser.add_argument("--program", default=os.path.join(TOP, "crates", "darwin", "out", "darwin"))
     arguments = parser.parse_args()
     program = os.path.abspath(arguments.program)
-    draw = random.Random(arguments.seed)
-    files = stored()
-    wrong = []
-
-    def told(title, ends):
-        counts = Counter()
-        for what, status, output, statuses in ends:
-            counts["no end" if status is None else status] += 1
-            fault = "does not end" if status is None else wrong_with(status, output, statuses)
-            if fault:
-                wrong.append(f"{title}: {fault}: {what!r:.200}")
-        print(f"{title}: {sum(counts.values())} runs; by status: " + ", ".join(f"{it} {counts[it]}" for it in sorted(counts, key=str)), flush=True)
-
-    with ThreadPoolExecutor(os.cpu_count()) as pool:
-        sent = [damaged(draw, files) for _ in range(arguments.count)]
-        few = ["--literals", "200"]
-        told("damaged files", ((it, *end, (0, 2, 3, 4)) for it, end in zip(sent, pool.map(lambda it: run(program, few, it), sent))))
-        words = list(refused_words())
-        told("words", ((it, *end, (1,)) for it, end in zip(words, pool.map(lambda it: run(program, it, b""), words))))
-    told("long files", ((it[:40], *run(program, few, it), (0, 2, 3, 4)) for it in long_files()))
-
-    # the least limit in which the program starts, and from there on
-    least = next(it for it in range(1 << 20, 1 << 30, 1 << 18) if run(program, ["--make", "1"], b"", it)[0] in range(8))
-    limits = [least + (step << 16) for step in range(0, 400, 3)]
-    calls = [(["--make", str(seed)], b"") for seed in range(3)] + [(few, it) for it in files[::12]]
-    cases = [(words, given, limit) for words, given in calls for limit in limits]
-    with ThreadPoolExecutor(os.cpu_count()) as pool:
-        ends = pool.map(lambda it: run(program, *it), cases)
-        told(f"memory from {least >> 10} KiB", ((it, *end, range(8)) for it, end in zip(cases, ends)))
-
-    def devices():
-        given = b"cnf(a,axiom,p(X)|q(X)).\ncnf(b,axiom,~p(a)).\n"
-        with open("/dev/full", "wb") as full:
-            yield "a full device", *run(program, [], given, stdout=full), (6,)
-        script = f"'{program}' --make 7 >&-"
-        yield "a closed output", subprocess.run(["bash", "-c", script], input=b"", stderr=subprocess.DEVNULL).returncode, b"", (6,)
-        script = f"set -o pipefail; '{program}' --make 7 | true; exit ${{PIPESTATUS[0]}}"
-        yield "a reader that goes away", subprocess.run(["bash", "-c", script], input=b"").returncode, b"", (0, 6)
-        done = subprocess.run(["bash", "-c", f"'{program}' < '{TOP}'"], stdout=subprocess.PIPE)
-        yield "a folder", done.returncode, done.stdout, (5,)
-        done = subprocess.run(["bash", "-c", f"'{program}' <&-"], stdout=subprocess.PIPE)
-        yield "a closed input", done.returncode, done.stdout, (0, 5)
-        with tempfile.TemporaryFile() as short:
-            short.write(given[:20])
-            short.seek(0)
-            done = subprocess.run([program], stdin=short, stdout=subprocess.PIPE)
-            yield "an input that ends early", done.returncode, done.stdout, (2,)
-
-    told("devices", ((what, status, output if status != 6 else b"", statuses) for what, status, output, statuses in devices()))
-    print("\n".join(wrong[:20]) if wrong else "nothing was wrong")
-    return 1 if wrong else 0
+    words = ["--workers", arguments.workers] if arguments.workers else []
+    parts = arguments.parts.split(",")
+    if not set(parts) <= set(PARTS):
+        parser.error(f"the parts are {', '.join(PARTS)}")
+    report = Report(arguments.keep)
+    with ThreadPoolExecutor(arguments.jobs) as pool:
+        if "damaged" in parts:
+            report.tell("damaged files", damaged_ends(program, pool, random.Random(arguments.seed), arguments.count, words))
+        if "long" in parts:
+            report.tell("long files", long_ends(program, random.Random(arguments.seed), words))
+        if "words" in parts:
+            report.tell("words", words_ends(program, pool))
+        if "memory" in parts:
+            least = least_memory(program, words)
+            report.tell(f"memory from {least >> 10} KiB", memory_ends(program, pool, least, words))
+        if "devices" in parts:
+            report.tell("devices", device_ends(program, words))
+    print("\n".join(report.wrong[:20]) if report.wrong else "nothing was wrong")
+    return 1 if report.wrong else 0
 
 
 if __name__ == "__main__":
