@@ -9,7 +9,7 @@ The parts, all of them unless some are named:
                 dropped or nested, of at most 4 KiB
     long        files of some 64 MiB: one that is repeated, one that is nested, and some with bytes flipped, cut or doubled
     words       every option out of its range, without a value, twice, and words that are none
-    memory      limits of the address space from the least in which the program starts to ample
+    memory      limits of the address space from the least in which the program starts to ample, for each of some calls
     devices     outputs that are full, closed or not read, inputs that are closed, a folder, or end early
 
 With --workers each call that has a search gets that option. Each run has to end by a status of the table of
@@ -229,18 +229,45 @@ def words_ends(program, pool):
         yield words, b"", *end, (1,)
 
 
-def least_memory(program, words):
-    """The least limit in which the program starts."""
-    return next(it for it in range(1 << 20, 1 << 30, 1 << 18) if run(program, ["--make", "1", *words], b"", it)[0] in range(8))
+def least_memory(program, words, given, is_enough):
+    """The least limit of the address space, to 4 KiB, with which the call ends by a status that is enough."""
+    low, high = 1 << 20, 1 << 21
+    while not is_enough(run(program, words, given, high)[0]):
+        low, high = high, 2 * high
+    while high - low > 1 << 12:
+        middle = (low + high) // 2
+        if is_enough(run(program, words, given, middle)[0]):
+            high = middle
+        else:
+            low = middle
+    return high
 
 
-def memory_ends(program, pool, least, words):
-    limits = [least + (step << 16) for step in range(0, 400, 3)]
-    calls = [(["--make", str(seed), *words], b"") for seed in range(3)]
-    calls += [(["--literals", "200", *words], it) for it in stored()[::12]]
-    cases = [(words, given, limit) for words, given in calls for limit in limits]
-    for (words, given, limit), end in zip(cases, pool.map(lambda it: run(program, *it), cases)):
-        yield (f"--as={limit}", *words), given, *end, range(8)
+def made_by(script, *words):
+    return subprocess.run([os.path.join(TOP, "bench", script), *words], stdout=subprocess.PIPE, check=True).stdout
+
+
+def memory_ends(program, pool, words):
+    calls = [
+        (["--make", "1"], b""),
+        ([], SMALL),
+        (["--list", "50000000"], made_by("deep.py", "16")),
+        ([], made_by("families.py", "pigeons", "5")),
+        ([], made_by("families.py", "closures", "12")),
+        ([], SMALL * 10000),
+        ([], SMALL * 10000 + b"x"),
+    ]
+    cases = []
+    for more, given in calls:
+        # (a program that the kernel or the loader cannot start ends by a signal or by 127)
+        start = least_memory(program, [*words, *more], given, lambda it: it in range(8))
+        ample = least_memory(program, [*words, *more], given, lambda it: it in (0, 2))
+        limits = [start + (ample - start) * step // 60 for step in range(66)]
+        # (from some limit on the C library gives each thread an arena of its own)
+        limits += [ample + (1 << step) for step in range(20, 29)]
+        cases += [([*words, *more], given, it) for it in limits]
+    for (call, given, limit), end in zip(cases, pool.map(lambda it: run(program, *it), cases)):
+        yield (f"--as={limit}", *call), given, *end, (0, 2, 7)
 
 
 SMALL = b"cnf(a,axiom,p(X)|q(X)).\ncnf(b,axiom,~p(a)).\n"
@@ -292,8 +319,7 @@ def main():
         if "words" in parts:
             report.tell("words", words_ends(program, pool))
         if "memory" in parts:
-            least = least_memory(program, words)
-            report.tell(f"memory from {least >> 10} KiB", memory_ends(program, pool, least, words))
+            report.tell("memory", memory_ends(program, pool, words))
         if "devices" in parts:
             report.tell("devices", device_ends(program, words))
     print("\n".join(report.wrong[:20]) if report.wrong else "nothing was wrong")
