@@ -4,4 +4,5 @@ pub mod Distinct
 pub mod Dropping
 pub mod Matchers
 pub mod Numbered
+pub mod Parts
 pub mod Waiting

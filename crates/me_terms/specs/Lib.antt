@@ -11,6 +11,7 @@ pub mod Fits
 pub mod GroundInstances
 pub mod Grown
 pub mod Hashed
+pub mod Heads
 pub mod InducedModel
 pub mod InstanceEqualityLaws
 pub mod Known

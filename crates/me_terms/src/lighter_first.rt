@@ -80,6 +80,23 @@ fn lighter<'a>(one: &'a [Term], other: &'a [Term], limit: u64) -> Option<Weighed
     }
 }
 
+/// The weight of one of two lists, which weigh so much together.
+pub(crate) fn weight_beside(one: &[Term], other: &[Term], both: u64) -> u64
+    requires { both ≡ weights (arguments_of (map term_value one.now)) + weights (arguments_of (map term_value other.now)) }
+    ensures { result ≡ weights (arguments_of (map term_value one.now)) }
+{
+    let mut most = 0_u64;
+    'limits: loop {
+        if let Some(weight) = weight_within(one, most) {
+            return weight;
+        }
+        if let Some(weight) = weight_within(other, most) {
+            return both - weight;
+        }
+        most = next_limit(most);
+    }
+}
+
 /// Whether two lists are alike, and how many symbols of each were looked at.
 #[derive(Clone, Copy)]
 pub(crate) struct Alike {
