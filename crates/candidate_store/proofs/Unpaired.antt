@@ -4,10 +4,9 @@ use Rattle.std.specs.List.{Contains}
 use Rattle.std.specs.declared.vec.Vec.{Vec}
 use Rattle.std.specs.declared.alloc.Global.{Global}
 use Rattle.std.specs.List.Sorted.{IsNonDecreasing}
-use Rattle.std.proofs.lemmas.Bool.{cases_lt}
+use Rattle.std.proofs.lemmas.Bool.{cases_eq, cases_lt}
 use Rattle.std.proofs.lemmas.Option.{slice_get_within, slice_get-get_or, get_or_from_slice_get}
 use Rattle.std.proofs.lemmas.List.{length-map, get_or-map, map_push, map_more, take_all}
-use Rattle.me_terms.specs.Sequences.{SequenceValue}
 use Rattle.me_terms.specs.Values.{ProblemValue, ClauseValue, EntryValue}
 use Rattle.me_terms.specs.Context.{Context, IsContext, StandsAt}
 use Rattle.me_terms.specs.Positions.{ClauseAt}
@@ -26,11 +25,9 @@ use Rattle.clause_pairs.specs.Lists.{IsRising, HasPlace, list_at}
 use Rattle.clause_pairs.specs.Meetings.{LiteralAt}
 use Rattle.clause_pairs.specs.Values.{PairsValue, numbers_of}
 use Rattle.clause_pairs.specs.Pairs.{ArePairs}
-use Rattle.candidate_keys.specs.Keys.{AssertKeyValue, UnifierKeyValue}
-use Rattle.candidate_store.specs.Searches.{At, FoundClose, ByPlace, HoldsAssertsIn, HaveUnifiersIn, HasNone, HasUnmet, items_of}
-
-abbrev items : SequenceValue ℕ → List ℕ
-items s = s.items
+use Rattle.me_terms.specs.Order.{assert_key}
+use Rattle.candidate_keys.specs.Keys.{AssertKeyValue, HasCode, UnifierKeyValue}
+use Rattle.candidate_store.specs.Searches.{At, FoundClose, ByPlace, Beside, AssertsAt, HoldsAssertsIn, HaveUnifiersIn, HasNone, HasUnmet, IsBareAt}
 
 abbrev place_at : ℕ → ℕ → ClausePlace
 place_at c i = record { clause = c; place = i }
@@ -51,16 +48,6 @@ empty_list lists i v lt at empty =
     let len = length-map lists list_items in
     let read : get_or (numbers_of lists) i [] ≡ [] = get_or-map list_items lists i v [] lt ∙ (ap list_items (sym at) ∙ none_of v.items empty) in
     slice_get-get_or (numbers_of lists) i [] (omega (arith, lt, len)) ∙ ap (λ (z : List ℕ). Some z) read
-
--- a list is copied
-pub list_copied : (copies more : List (SequenceValue ℕ)) (lists : List (Vec ℕ Global)) (i : ℕ) (v : Vec ℕ Global) (s : SequenceValue ℕ) → i < length lists → v ≡ get_or lists i v → s.items ≡ v.items → more ≡ copies ++ s ∷ [] → items_of copies ≡ numbers_of (take i lists) → items_of more ≡ numbers_of (take (i + 1) lists)
-list_copied copies more lists i v s lt at same is h =
-    let P : Vec ℕ Global → Type 0 = λ z. numbers_of (take (i + 1) lists) ≡ numbers_of (take i lists) ++ z.items ∷ [] in
-    let next = subst P (sym at) (map_more list_items lists i v lt) in
-    ap items_of is ∙ (map_push items copies s ∙ (ap (λ z. z ++ s.items ∷ []) h ∙ (ap (λ z. numbers_of (take i lists) ++ z ∷ []) same ∙ sym next)))
-
-pub lists_copied : (copies : List (SequenceValue ℕ)) (lists : List (Vec ℕ Global)) (n : ℕ) → length lists ≤ n → items_of copies ≡ numbers_of (take n lists) → items_of copies ≡ numbers_of lists
-lists_copied copies lists n all h = h ∙ ap numbers_of (take_all n lists all)
 
 -- ---- signs
 pub sign_apart : (a b : Bool) → a ≡ b → ¬ (a ≡ not b)
@@ -101,6 +88,14 @@ module _ (problem : ProblemValue) (context : Context) (v : PairsValue) (pairs : 
       let a = region.0 in
       let b = region.1 in
       absurd (l.2 (assert_needs_pairs problem bounds context c place tuple e l.1.0 none.0 l.0 is_context (subst P (λ i. (a i, b i)) h) l.1.1 l.1.2 none.1))
+
+  -- an Assert leaves out the place of an empty list
+  pub asserts_leave_bare : (bounds : Bounds) → IsContext context → (q : ClausePlace) (p place : ℕ) (keys : List AssertKeyValue) → IsBareAt v.lists q.clause place → HoldsAssertsIn problem bounds context (Beside q place p) keys → HoldsAssertsIn problem bounds context (AssertsAt q p) keys
+  asserts_leave_bare bounds is_context q p place keys bare h c other tuple e region a =
+      elim (cases_eq other place) as (λ _. HasCode keys (assert_key c other tuple e)) [
+        | inl same ↦ h c other tuple e (same, region) a
+        | inr apart ↦ assert_unpaired bounds is_context q.clause other None bare.0 keys bare.1 (place, (λ same. apart (sym same)), bare.2) c other tuple e (region.0, refl, tt) a
+      ]
 
   pub unifiers_unmet : (bounds : Bounds) (q : ClausePlace) (p : ℕ) (keys : List UnifierKeyValue) → HasUnmet problem context q.clause → HaveUnifiersIn problem bounds context (At q p) keys
   unifiers_unmet bounds q p keys unmet c tuple clause f region h =
@@ -155,13 +150,13 @@ module _ (problem : ProblemValue) (context : Context) (v : PairsValue) (pairs : 
         | inr ge ↦ (let same : i ≡ j = omega arith in let e : get_or xs i d ≡ get_or xs j d = ap (λ z. get_or xs z d) same in omega (arith, e))
       ]
 
-  module _ (c : ℕ) (clause : ClauseValue) (clause_at : ClauseAt problem c clause) (lists : List (List ℕ)) (row : slice_get v.lists c ≡ Some lists) (partners : List (SequenceValue ℕ)) (same : items_of partners ≡ lists) where
-    list_of : (i : ℕ) (s : SequenceValue ℕ) → slice_get partners i ≡ Some s → slice_get lists i ≡ Some s.items
+  module _ (c : ℕ) (clause : ClauseValue) (clause_at : ClauseAt problem c clause) (lists : List (List ℕ)) (row : slice_get v.lists c ≡ Some lists) (partners : List (Vec ℕ Global)) (same : numbers_of partners ≡ lists) where
+    list_of : (i : ℕ) (s : Vec ℕ Global) → slice_get partners i ≡ Some s → slice_get lists i ≡ Some s.items
     list_of i s at =
         let lt = slice_get_within partners i s at in
-        let len = length-map partners items in
+        let len = length-map partners list_items in
         let len2 = ap length same in
-        let read : get_or lists i [] ≡ s.items = ap (λ (z : List (List ℕ)). get_or z i []) (sym same) ∙ (get_or-map items partners i s [] lt ∙ ap items (get_or_from_slice_get partners i s s at)) in
+        let read : get_or lists i [] ≡ s.items = ap (λ (z : List (List ℕ)). get_or z i []) (sym same) ∙ (get_or-map list_items partners i s [] lt ∙ ap list_items (get_or_from_slice_get partners i s s at)) in
         slice_get-get_or lists i [] (omega (arith, lt, len, len2)) ∙ ap (λ (z : List ℕ). Some z) read
 
     pub are_partners : ArePartners context clause.literals partners
@@ -178,12 +173,11 @@ module _ (problem : ProblemValue) (context : Context) (v : PairsValue) (pairs : 
           let row_is : get_or v.lists c [] ≡ lists = get_or_from_slice_get v.lists c lists [] row in
           let P : List (List ℕ) → Type 0 = λ z. i < length z in
           let lt : i < length lists = subst P row_is has.1 in
-          let len = length-map partners items in
+          let len = length-map partners list_items in
           let len2 = ap length same in
-          let empty : SequenceValue ℕ = record { items = []; spare = 0 } in
-          let s = get_or partners i empty in
-          let there : slice_get partners i ≡ Some s = slice_get-get_or partners i empty (omega (arith, lt, len, len2)) in
-          let list_is : list_at v.lists (place_at c i) ≡ s.items = (list_there v.lists c i lists s.items row (list_of i s there)).1 in
+          let found = there partners i (omega (arith, lt, len, len2)) in
+          let s = found.0 in
+          let list_is : list_at v.lists (place_at c i) ≡ s.items = (list_there v.lists c i lists s.items row (list_of i s found.1)).1 in
           let Q : List ℕ → Type 0 = λ z. Contains z k in
-          (s, there, subst Q list_is (((pairs.list (place_at c i) l at).exact k).1 (h.2, (h.1, h.4, h.5))));
+          (s, found.1, subst Q list_is (((pairs.list (place_at c i) l at).exact k).1 (h.2, (h.1, h.4, h.5))));
     }

@@ -1,5 +1,5 @@
 -- What a search for new candidates finds: those with a pivot.
-use Rattle.std.specs.Prelude.{◌≡◌, ℕ, ◌-◌, ◌≤◌, ◌<◌, List, [], map, slice_get, Option, None, Some, IfSome, ◌⊎◌, ltb, if◌then◌else◌}
+use Rattle.std.specs.Prelude.{◌≡◌, ℕ, ◌-◌, ◌≤◌, ◌<◌, List, [], slice_get, Option, None, Some, IfSome, ◌⊎◌, ltb, if◌then◌else◌}
 use Rattle.std.specs.List.{Contains}
 use Rattle.me_terms.specs.Substitutions.{Family}
 use Rattle.me_terms.specs.Values.{ProblemValue, ClauseValue, EntryValue}
@@ -8,7 +8,6 @@ use Rattle.me_terms.specs.Close.{IsClose}
 use Rattle.me_terms.specs.Assert.{IsAssert}
 use Rattle.me_terms.specs.Productive.{IsProductiveUnifier}
 use Rattle.me_terms.specs.Order.{Precedes, clause_key, assert_key}
-use Rattle.me_terms.specs.Sequences.{SequenceValue}
 use Rattle.me_terms.specs.declared.bounds.Bounds.{Bounds}
 use Rattle.me_terms.specs.declared.atom.Literal.{Literal}
 use Rattle.me_laws_increments.specs.Pairs.{HasPair}
@@ -40,13 +39,13 @@ PivotWithin from to c tuple = (p i : ℕ) × IsPivot tuple p i × (from ≤ p) �
 abbrev pub At : ClausePlace → ℕ → Region
 At q p c tuple = (c ≡ q.clause) × IsPivot tuple p q.place
 
--- the places of each list
-abbrev pub items_of : List (SequenceValue ℕ) → List (List ℕ)
-items_of lists = map (λ s. s.items) lists
-
 -- The list of some place is empty, which is not the skipped one.
 abbrev pub HasNone : List (List ℕ) → ℕ → Type 0
 HasNone lists skip = (i : ℕ) × (¬ (i ≡ skip)) × (slice_get lists i ≡ Some [])
+
+-- The list of that place of that clause is empty.
+abbrev pub IsBareAt : List (List (List ℕ)) → ℕ → ℕ → Type 0
+IsBareAt lists c i = (list : List (List ℕ)) × (slice_get lists c ≡ Some list) × (slice_get list i ≡ Some [])
 
 -- No entry stands against some literal of the clause.
 abbrev pub HasUnmet : ProblemValue → Context → ℕ → Type 0

@@ -120,14 +120,14 @@ impl<'a, V: View> Search<'a, V> {
             weight: Some(bounds.weight),
             pivot,
         };
-        let partners = self.partners(index)?;
+        let partners = self.partners(index);
         let mut cursor = Cursor::among(
             self.alloc,
             &clause.literals,
             Some(place),
             limits,
             self.view,
-            &partners,
+            partners,
         );
         while cursor.advance()? {
             self.add_assert(clause, index, place, cursor.tuple(), asserts)?;
@@ -176,6 +176,10 @@ impl<'a, V: View> Search<'a, V> {
         ensures kept { OnOk result (Keeps asserts.old asserts.new) }
         ensures added { OnOk result (HoldsAssertsIn self.now.problem.now self.now.bounds.now (V.context self.now.view.now) (AssertsAt at pivot) asserts.new) }
     {
+        let _entries = self.view.len();
+        if let Some(place) = self.first_bare(at.clause) {
+            return self.add_asserts_beside(at, place, pivot, asserts);
+        }
         let clause = self.clause(at.clause);
         let places = clause.literals.len() as u32;
         for place in 0..places {

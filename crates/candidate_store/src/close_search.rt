@@ -100,14 +100,14 @@ impl<'a, V: View> Search<'a, V> {
                 index: at.place,
             }),
         };
-        let partners = self.partners(at.clause)?;
+        let partners = self.partners(at.clause);
         let mut cursor = Cursor::among(
             self.alloc,
             &clause.literals,
             None,
             limits,
             self.view,
-            &partners,
+            partners,
         );
         if !cursor.advance()? {
             return Ok(None);

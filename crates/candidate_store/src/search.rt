@@ -1,17 +1,18 @@
 //! What a search goes over.
-ghost use Rattle.std.specs.Prelude.{◌≡◌, ◌<◌, length, slice_get, Some, not, false, IsTrue, ◌↔◌, IfOk};
+ghost use Rattle.std.specs.Prelude.{◌≡◌, ◌<◌, length, slice_get, Some, IfSome, not, false, IsTrue, ◌↔◌};
+ghost use Rattle.me_terms.specs.Validity.{IsValid};
 ghost use Rattle.me_terms.specs.Values.{ClauseValue, EntryValue};
 ghost use Rattle.me_terms.specs.Context.{StandsAt};
 ghost use Rattle.me_terms.specs.Positions.{ClauseAt};
 ghost use Rattle.tuple_search.specs.Partners.{ArePartners};
 ghost use Rattle.clause_pairs.specs.Values.{numbers_of};
 ghost use Rattle.clause_pairs.specs.Pairs.{ArePairs};
-ghost use Rattle.candidate_store.specs.Searches.{HasNone, HasUnmet, items_of};
+ghost use Rattle.candidate_store.specs.Searches.{HasNone, HasUnmet, IsBareAt};
 ghost use Rattle.me_terms.specs.Next.{HasRoom};
 
 use clause_pairs::Pairs;
-use me_terms::{Bounds, Clause, Literal, Places, Problem, View};
-use std::alloc::{AllocError, Global};
+use me_terms::{Bounds, Clause, Literal, Problem, View};
+use std::alloc::Global;
 
 /// Whether the list has no position.
 fn is_bare(list: &Vec<u32>) -> bool
@@ -33,17 +34,6 @@ pub(crate) fn are_paired(lists: &[Vec<u32>], skip: usize) -> bool
         }
     }
     true
-}
-
-/// The lists, each as the places that it has.
-fn places_of(alloc: Global, lists: &[Vec<u32>]) -> Result<Vec<Places>, AllocError>
-    ensures { IfOk result (λ places. items_of places.items ≡ numbers_of lists.now) }
-{
-    let mut places = Vec::new(alloc);
-    for list in lists {
-        places.push(Places::from_slice(list, alloc)?)?;
-    }
-    Ok(places)
 }
 
 /// A problem and a context, what stands against what, and the bounds.
@@ -78,12 +68,31 @@ impl<'a, V: View> Search<'a, V> {
     }
 
     /// For each place of the clause the positions of the entries that stand against its literal.
-    pub(crate) fn partners(&self, clause: u32) -> Result<Vec<Places>, AllocError>
+    pub(crate) fn partners(&self, clause: u32) -> &'a [Vec<u32>]
         requires pairs { ArePairs self.now.problem.now (V.context self.now.view.now) self.now.pairs.now }
         requires clause { clause < length self.now.problem.now.clauses }
-        ensures { IfOk result (λ partners. (c : ClauseValue) → ClauseAt self.now.problem.now clause c → ArePartners (V.context self.now.view.now) c.literals partners.items) }
+        ensures { (c : ClauseValue) → ClauseAt self.now.problem.now clause c → ArePartners (V.context self.now.view.now) c.literals result.now }
     {
-        places_of(self.alloc, self.pairs.of_clause(clause))
+        let pairs = self.pairs;
+        pairs.of_clause(clause)
+    }
+
+    /// The first place of the clause against whose literal no entry stands but perhaps the pseudo-literal.
+    pub(crate) fn first_bare(&self, index: u32) -> Option<u32>
+        requires valid { IsValid self.now.problem.now }
+        requires pairs { ArePairs self.now.problem.now (V.context self.now.view.now) self.now.pairs.now }
+        requires clause { index < length self.now.problem.now.clauses }
+        ensures { IfSome result (λ i. IsBareAt self.now.pairs.now.lists index i) }
+    {
+        let lists = self.pairs.of_clause(index);
+        let clause = self.clause(index);
+        let places = clause.literals.len() as u32;
+        for i in 0..places {
+            if is_bare(&lists[i as usize]) {
+                return Some(i);
+            }
+        }
+        None
     }
 
     /// Whether the pseudo-literal has the opposite sign.
