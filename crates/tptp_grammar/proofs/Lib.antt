@@ -1,4 +1,4 @@
-mod Rests
+pub mod Rests
 mod Completions
 pub mod Runs
 pub mod Counts
