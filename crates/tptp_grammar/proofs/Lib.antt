@@ -2,7 +2,7 @@ pub mod Rests
 mod Completions
 pub mod Runs
 pub mod Counts
-mod Fronts
+pub mod Fronts
 pub mod Growth
 mod Places
 mod Causes

@@ -1,3 +1,4 @@
 pub mod States
 pub mod Includes
+pub mod Printing
 pub mod Reached

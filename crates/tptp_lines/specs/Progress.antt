@@ -30,7 +30,7 @@ abbrev pub formula_fed : Part → ℕ → Terminal → Reading → Progress → 
 formula_fed part.Formula at t u p = record { reading = u; stage = p.stage; label = p.label; from = at; file = p.file; picks = p.picks; lines = p.lines }
 formula_fed part.Label at t u p = record { reading = u; stage = p.stage; label = label_as t; from = p.from; file = p.file; picks = p.picks; lines = p.lines }
 formula_fed part.End at t u p = record { reading = u; stage = p.stage; label = no_label; from = p.from; file = p.file; picks = p.picks; lines = p.lines ++ Formula p.label p.from (suc at) ∷ [] }
-formula_fed other at t u p = record { reading = u; stage = p.stage; label = p.label; from = p.from; file = p.file; picks = p.picks; lines = p.lines }
+formula_fed _ at t u p = record { reading = u; stage = p.stage; label = p.label; from = p.from; file = p.file; picks = p.picks; lines = p.lines }
 
 -- the stage behind a token of an include; None where no include goes on with it
 abbrev pub include_step : Stage → Terminal → Option Stage
