@@ -1,3 +1,4 @@
+pub mod Alongside
 pub mod Descents
 pub mod Ends
 pub mod GoingBack

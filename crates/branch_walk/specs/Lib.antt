@@ -1,3 +1,4 @@
+pub mod Along
 pub mod Jobs
 pub mod OwnParts
 pub mod Tallies

@@ -6,9 +6,8 @@ ghost use Rattle.branch_core.specs.Whole.{IsIn};
 ghost use Rattle.branch_walk.specs.Jobs.{turn_of, turns_taken};
 ghost use Rattle.branch_walk.specs.Walks.{Hears};
 
-use crate::job::Job;
 use branch_core::{Hook, Path, key_of};
-use me_terms::{Entry, Reason, Trunk, View};
+use me_terms::{Entry, Reason, View};
 
 /// The path with the turn of the entry, or None where there are 16 turns already and the entry has one.
 fn with_turn(path: Path, entry: &Entry) -> Option<Path>
@@ -39,8 +38,8 @@ pub fn node_key<V: View>(branch: &V) -> u16
 }
 
 /// The least key that the hook tells, where it is smaller than that of the branch's node.
-pub(crate) fn told_cut<T: Trunk, H: Hook<Job<T>>>(branch: &T, hook: &mut H) -> Option<u16>
-    ensures told { (told : List ℕ) × Hears (record { given = H.given hook.old; seen = H.seen hook.old; posted = H.posted hook.old }) (record { given = H.given hook.new; seen = H.seen hook.new; posted = H.posted hook.new }) [] told [] × IfSome result (λ cut_key. IsIn cut_key told × (cut_key < key (turns_taken (T.context branch.now)))) }
+pub(crate) fn told_cut<V: View, J, H: Hook<J>>(branch: &V, hook: &mut H) -> Option<u16>
+    ensures told { (told : List ℕ) × Hears (record { given = H.given hook.old; seen = H.seen hook.old; posted = H.posted hook.old }) (record { given = H.given hook.new; seen = H.seen hook.new; posted = H.posted hook.new }) [] told [] × IfSome result (λ cut_key. IsIn cut_key told × (cut_key < key (turns_taken (V.context branch.now)))) }
     ensures condition { SameGifts (H.may_give hook.old) (H.may_give hook.new) }
 {
     match hook.least() {

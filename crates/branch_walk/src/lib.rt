@@ -8,6 +8,7 @@ mod alone;
 mod alone_hook;
 mod entries;
 mod job;
+mod kept;
 mod keys;
 mod listing;
 mod notes;

@@ -17,23 +17,23 @@ ghost use Rattle.ground_refutation.specs.Queue.{IsGrownOver};
 use branch_core::Listed;
 use ground_refutation::instances_of;
 use instance_lists::{ListError, merge};
-use me_terms::{Bounds, Instances, Problem, Trunk, Tuple};
+use me_terms::{Bounds, Instances, Problem, Tuple, View};
 use std::alloc::{AllocError, Global};
 
 /// The list of the leaf that the clause closes with the tuple.
-pub(crate) fn leaf_listed<T: Trunk>(
+pub(crate) fn leaf_listed<V: View>(
     alloc: Global,
     problem: &Problem,
     bounds: &Bounds,
-    branch: &T,
+    branch: &V,
     clause: u32,
     tuple: &Tuple,
 ) -> Result<Listed, AllocError>
     requires valid { IsValid problem.now }
     requires bounds { IsLawful bounds.now }
-    requires grown { IsGrownOver problem.now (T.context branch.now) }
-    requires closes { IsNext problem.now bounds.now (T.context branch.now) (Close clause tuple.now.items) }
-    ensures { IfOk result (λ found. (list : List InstanceValue) → IsLeafList problem.now (T.context branch.now) clause tuple.now.items list → listed_value found ≡ listed bounds.now.list list) }
+    requires grown { IsGrownOver problem.now (V.context branch.now) }
+    requires closes { IsNext problem.now bounds.now (V.context branch.now) (Close clause tuple.now.items) }
+    ensures { IfOk result (λ found. (list : List InstanceValue) → IsLeafList problem.now (V.context branch.now) clause tuple.now.items list → listed_value found ≡ listed bounds.now.list list) }
 {
     match instances_of(alloc, problem, branch, clause, tuple, bounds.list) {
         Ok(list) => Ok(Listed::Whole { list }),

@@ -53,9 +53,9 @@ pub fn walk_portion<T: Trunk, H: Hook<Job<T>>>(
         problem,
         bounds,
     };
-    let Job { path, mut branch } = job;
+    let Job { path, branch } = job;
     let mut tally = Tally::new(room);
-    let _state = search.spine(share, path, &mut branch, &mut tally, hook);
+    let _state = search.walk(share, path, branch, &mut tally, hook);
     Record {
         path,
         parts: tally.finish(),

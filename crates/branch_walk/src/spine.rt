@@ -8,6 +8,7 @@ ghost use Rattle.branch_core.specs.Paths.{Turns};
 ghost use Rattle.branch_core.specs.Pieces.{Piece};
 ghost use Rattle.branch_walk.specs.Jobs.{IsJob, turns_taken};
 ghost use Rattle.branch_core.specs.Portions.{MayBeGiven};
+ghost use Rattle.branch_walk.specs.Along.{IsOf};
 ghost use Rattle.branch_walk.specs.Tallies.{IsTally, AddsAtMost, HasSpare, TakesOwnLeaf};
 ghost use Rattle.branch_walk.specs.Walks.{HasWalkedLeft, Hears, Heard, IsBeside, IsLeftOfSplit, IsReady, IsWalked, LeadsTo};
 ghost use Rattle.branch_walk.specs.declared.job.Job.{Job as JobOf};
@@ -15,11 +16,12 @@ ghost use Rattle.branch_walk.specs.declared.state.State.TheVariants.{Going};
 ghost use Rattle.branch_walk.specs.declared.tally.Tally.{Tally as TallyOf};
 
 use crate::job::Job;
+use crate::kept::KeptBranch;
 use crate::state::{State, Visit};
 use crate::tally::Tally;
-use crate::turning::{Search, shrink_to};
+use crate::turning::Search;
 use branch_core::{Give, Hook, Path};
-use me_terms::Trunk;
+use me_terms::{Trunk, View};
 use std::alloc::AllocError;
 
 /// The number of turns.
@@ -52,27 +54,61 @@ fn right_path(path: Path) -> Path
 }
 
 impl<'a> Search<'a> {
-    /// Walks the tree of the branch's context, whose path it is. The right children of nodes of fewer than
-    /// `share` turns along left turns are given away.
-    pub(crate) fn spine<T: Trunk, H: Hook<Job<T>>>(
+    /// Walks the tree of the branch's context, whose path it is, along a store of its own.
+    pub(crate) fn walk<T: Trunk, H: Hook<Job<T>>>(
         &self,
         share: u32,
         path: Path,
-        branch: &mut T,
+        branch: T,
         tally: &mut Tally,
         hook: &mut H,
     ) -> State
         requires valid { IsValid self.now.problem.now }
         requires bounds { IsLawful self.now.bounds.now }
         requires share { share ≤ 16 }
-        requires job { IsJob self.now.problem.now self.now.bounds.now path (T.context branch.old) }
+        requires job { IsJob self.now.problem.now self.now.bounds.now path (T.context branch) }
         requires open { TakesOwnLeaf tally.old }
         requires kept { (before : List Piece) × IsTally self.now.bounds.now.list tally.old before }
         requires room { HasSpare (2 * (share - length path) + 1) tally.old }
         requires hook { (gift : Turns) (work : JobOf T) → MayBeGiven share path gift → IsJob self.now.problem.now self.now.bounds.now gift (T.context work.branch) → work.path ≡ gift → H.may_give hook.old gift work }
-        ensures walked { IsWalked self.now.problem.now self.now.bounds.now share (T.context branch.old) result (record { given = H.given hook.old; seen = H.seen hook.old; posted = H.posted hook.old }) (record { given = H.given hook.new; seen = H.seen hook.new; posted = H.posted hook.new }) tally.old tally.new }
+        ensures walked { IsWalked self.now.problem.now self.now.bounds.now share (T.context branch) result (record { given = H.given hook.old; seen = H.seen hook.old; posted = H.posted hook.old }) (record { given = H.given hook.new; seen = H.seen hook.new; posted = H.posted hook.new }) tally.old tally.new }
         ensures ready { IsReady result tally.new }
-        ensures stands { result ≡ Going → (later : Context) × (T.context branch.new ≡ T.context branch.old ++ later) }
+        ensures pushes { AddsAtMost (2 * (share - length path) + 1) tally.old tally.new }
+        ensures quiet { share ≤ length path → H.seen hook.new ≡ H.seen hook.old → AddsAtMost 0 tally.old tally.new }
+        ensures condition { SameGifts (H.may_give hook.old) (H.may_give hook.new) }
+    {
+        match KeptBranch::new(self, branch) {
+            Ok(mut kept) => self.spine(share, path, &mut kept, tally, hook),
+            Err(AllocError) => {
+                tally.lose();
+                State::Lost
+            }
+        }
+    }
+
+    /// Walks the tree of the branch's context, whose path it is. The right children of nodes of fewer than
+    /// `share` turns along left turns are given away.
+    pub(crate) fn spine<T: Trunk, H: Hook<Job<T>>>(
+        &self,
+        share: u32,
+        path: Path,
+        branch: &mut KeptBranch<'a, T>,
+        tally: &mut Tally,
+        hook: &mut H,
+    ) -> State
+        requires valid { IsValid self.now.problem.now }
+        requires bounds { IsLawful self.now.bounds.now }
+        requires share { share ≤ 16 }
+        requires of { IsOf self.now.problem.now self.now.bounds.now branch.old }
+        requires job { IsJob self.now.problem.now self.now.bounds.now path branch.old.context }
+        requires open { TakesOwnLeaf tally.old }
+        requires kept { (before : List Piece) × IsTally self.now.bounds.now.list tally.old before }
+        requires room { HasSpare (2 * (share - length path) + 1) tally.old }
+        requires hook { (gift : Turns) (work : JobOf T) → MayBeGiven share path gift → IsJob self.now.problem.now self.now.bounds.now gift (T.context work.branch) → work.path ≡ gift → H.may_give hook.old gift work }
+        ensures of { IsOf self.now.problem.now self.now.bounds.now branch.new }
+        ensures walked { IsWalked self.now.problem.now self.now.bounds.now share branch.old.context result (record { given = H.given hook.old; seen = H.seen hook.old; posted = H.posted hook.old }) (record { given = H.given hook.new; seen = H.seen hook.new; posted = H.posted hook.new }) tally.old tally.new }
+        ensures ready { IsReady result tally.new }
+        ensures stands { result ≡ Going → (later : Context) × (branch.new.context ≡ branch.old.context ++ later) }
         ensures pushes { AddsAtMost (2 * (share - length path) + 1) tally.old tally.new }
         ensures quiet { share ≤ length path → H.seen hook.new ≡ H.seen hook.old → AddsAtMost 0 tally.old tally.new }
         ensures condition { SameGifts (H.may_give hook.old) (H.may_give hook.new) }
@@ -86,7 +122,7 @@ impl<'a> Search<'a> {
         let left = left_path(path);
         let right = right_path(path);
         let base = branch.len();
-        let away = self.give_right(right, branch, hook);
+        let away = self.give_right(right, branch.trunk(), hook);
         let state = self.spine(share, left, branch, tally, hook);
         self.after_left(away, state, right, base, branch, tally, hook)
     }
@@ -94,17 +130,19 @@ impl<'a> Search<'a> {
     /// Goes down by Asserts to a Split and enters its left branch, or tells how the walk ended before.
     fn to_split<T: Trunk, H: Hook<Job<T>>>(
         &self,
-        branch: &mut T,
+        branch: &mut KeptBranch<'a, T>,
         tally: &mut Tally,
         hook: &mut H,
     ) -> Option<State>
         requires valid { IsValid self.now.problem.now }
         requires bounds { IsLawful self.now.bounds.now }
-        requires grown { IsGrown self.now.problem.now self.now.bounds.now (T.context branch.old) }
+        requires of { IsOf self.now.problem.now self.now.bounds.now branch.old }
+        requires grown { IsGrown self.now.problem.now self.now.bounds.now branch.old.context }
         requires open { TakesOwnLeaf tally.old }
         requires kept { (before : List Piece) × IsTally self.now.bounds.now.list tally.old before }
         requires room { HasSpare 1 tally.old }
-        ensures ended { MatchOption result ((told : List ℕ) × (node : Context) × Hears (record { given = H.given hook.old; seen = H.seen hook.old; posted = H.posted hook.old }) (record { given = H.given hook.new; seen = H.seen hook.new; posted = H.posted hook.new }) [] told [] × LeadsTo self.now.problem.now self.now.bounds.now (T.context branch.old) node × IsLeftOfSplit self.now.problem.now self.now.bounds.now node (T.context branch.new) × (tally.new ≡ tally.old) × ((later : Context) × (node ≡ T.context branch.old ++ later))) (λ state. ((share : ℕ) → IsWalked self.now.problem.now self.now.bounds.now share (T.context branch.old) state (record { given = H.given hook.old; seen = H.seen hook.old; posted = H.posted hook.old }) (record { given = H.given hook.new; seen = H.seen hook.new; posted = H.posted hook.new }) tally.old tally.new) × IsReady state tally.new × (state ≡ Going → (later : Context) × (T.context branch.new ≡ T.context branch.old ++ later))) }
+        ensures of { IsOf self.now.problem.now self.now.bounds.now branch.new }
+        ensures ended { MatchOption result ((told : List ℕ) × (node : Context) × Hears (record { given = H.given hook.old; seen = H.seen hook.old; posted = H.posted hook.old }) (record { given = H.given hook.new; seen = H.seen hook.new; posted = H.posted hook.new }) [] told [] × LeadsTo self.now.problem.now self.now.bounds.now branch.old.context node × IsLeftOfSplit self.now.problem.now self.now.bounds.now node branch.new.context × (tally.new ≡ tally.old) × ((later : Context) × (node ≡ branch.old.context ++ later))) (λ state. ((share : ℕ) → IsWalked self.now.problem.now self.now.bounds.now share branch.old.context state (record { given = H.given hook.old; seen = H.seen hook.old; posted = H.posted hook.old }) (record { given = H.given hook.new; seen = H.seen hook.new; posted = H.posted hook.new }) tally.old tally.new) × IsReady state tally.new × (state ≡ Going → (later : Context) × (branch.new.context ≡ branch.old.context ++ later))) }
         ensures pushes { AddsAtMost 1 tally.old tally.new }
         ensures condition { SameGifts (H.may_give hook.old) (H.may_give hook.new) }
     {
@@ -164,17 +202,19 @@ impl<'a> Search<'a> {
         state: State,
         right: Path,
         base: u32,
-        branch: &mut T,
+        branch: &mut KeptBranch<'a, T>,
         tally: &mut Tally,
         hook: &mut H,
     ) -> State
         requires valid { IsValid self.now.problem.now }
         requires bounds { IsLawful self.now.bounds.now }
+        requires of { IsOf self.now.problem.now self.now.bounds.now branch.old }
         requires ready { IsReady state tally.old }
         requires kept { (before : List Piece) × IsTally self.now.bounds.now.list tally.old before }
         requires room { HasSpare 2 tally.old }
-        requires left { (share : ℕ) × (node : Context) × (start : Heard) × (first : TallyOf) × HasWalkedLeft self.now.problem.now self.now.bounds.now share away right base state (T.context branch.old) node start (record { given = H.given hook.old; seen = H.seen hook.old; posted = H.posted hook.old }) first tally.old }
-        ensures walked { (share : ℕ) (node : Context) (start : Heard) (first : TallyOf) → HasWalkedLeft self.now.problem.now self.now.bounds.now share away right base state (T.context branch.old) node start (record { given = H.given hook.old; seen = H.seen hook.old; posted = H.posted hook.old }) first tally.old → IsWalked self.now.problem.now self.now.bounds.now share node result start (record { given = H.given hook.new; seen = H.seen hook.new; posted = H.posted hook.new }) first tally.new × (result ≡ Going → (later : Context) × (T.context branch.new ≡ node ++ later)) }
+        requires left { (share : ℕ) × (node : Context) × (start : Heard) × (first : TallyOf) × HasWalkedLeft self.now.problem.now self.now.bounds.now share away right base state branch.old.context node start (record { given = H.given hook.old; seen = H.seen hook.old; posted = H.posted hook.old }) first tally.old }
+        ensures of { IsOf self.now.problem.now self.now.bounds.now branch.new }
+        ensures walked { (share : ℕ) (node : Context) (start : Heard) (first : TallyOf) → HasWalkedLeft self.now.problem.now self.now.bounds.now share away right base state branch.old.context node start (record { given = H.given hook.old; seen = H.seen hook.old; posted = H.posted hook.old }) first tally.old → IsWalked self.now.problem.now self.now.bounds.now share node result start (record { given = H.given hook.new; seen = H.seen hook.new; posted = H.posted hook.new }) first tally.new × (result ≡ Going → (later : Context) × (branch.new.context ≡ node ++ later)) }
         ensures ready { IsReady result tally.new }
         ensures pushes { AddsAtMost 2 tally.old tally.new }
         ensures condition { SameGifts (H.may_give hook.old) (H.may_give hook.new) }
@@ -185,8 +225,8 @@ impl<'a> Search<'a> {
         }
         match state {
             State::Going => {
-                shrink_to(branch, base);
-                match self.turn_right(branch) {
+                branch.shrink_to(base);
+                match branch.turn_right() {
                     Ok(()) => self.subtree(branch, tally, hook),
                     Err(AllocError) => {
                         tally.lose();

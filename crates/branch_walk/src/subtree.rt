@@ -7,35 +7,39 @@ ghost use Rattle.me_terms.specs.Validity.{IsLawful, IsValid};
 ghost use Rattle.me_terms.specs.Grown.{IsGrown};
 ghost use Rattle.branch_core.specs.Hooks.{SameGifts};
 ghost use Rattle.branch_core.specs.Pieces.{Piece};
+ghost use Rattle.branch_walk.specs.Along.{IsOf};
 ghost use Rattle.branch_walk.specs.Tallies.{IsTally, AddsAtMost, HasSpare, TakesOwnLeaf};
 ghost use Rattle.branch_walk.specs.Walks.{IsReady, IsWalked};
 ghost use Rattle.branch_walk.specs.declared.state.State.TheVariants.{Going};
 
 use crate::job::Job;
+use crate::kept::KeptBranch;
 use crate::state::{State, Visit};
 use crate::tally::Tally;
-use crate::turning::{Search, back};
+use crate::turning::Search;
 use branch_core::Hook;
-use me_terms::Trunk;
+use me_terms::{Trunk, View};
 use std::alloc::AllocError;
 
 impl<'a> Search<'a> {
     /// Walks the tree of the branch's context. Where it was walked to the end, the branch is as before.
     pub(crate) fn subtree<T: Trunk, H: Hook<Job<T>>>(
         &self,
-        branch: &mut T,
+        branch: &mut KeptBranch<'a, T>,
         tally: &mut Tally,
         hook: &mut H,
     ) -> State
         requires valid { IsValid self.now.problem.now }
         requires bounds { IsLawful self.now.bounds.now }
-        requires grown { IsGrown self.now.problem.now self.now.bounds.now (T.context branch.old) }
+        requires of { IsOf self.now.problem.now self.now.bounds.now branch.old }
+        requires grown { IsGrown self.now.problem.now self.now.bounds.now branch.old.context }
         requires open { TakesOwnLeaf tally.old }
         requires kept { (before : List Piece) × IsTally self.now.bounds.now.list tally.old before }
         requires room { HasSpare 1 tally.old }
-        ensures walked { (share : ℕ) → IsWalked self.now.problem.now self.now.bounds.now share (T.context branch.old) result (record { given = H.given hook.old; seen = H.seen hook.old; posted = H.posted hook.old }) (record { given = H.given hook.new; seen = H.seen hook.new; posted = H.posted hook.new }) tally.old tally.new }
+        ensures of { IsOf self.now.problem.now self.now.bounds.now branch.new }
+        ensures walked { (share : ℕ) → IsWalked self.now.problem.now self.now.bounds.now share branch.old.context result (record { given = H.given hook.old; seen = H.seen hook.old; posted = H.posted hook.old }) (record { given = H.given hook.new; seen = H.seen hook.new; posted = H.posted hook.new }) tally.old tally.new }
         ensures ready { IsReady result tally.new }
-        ensures stands { result ≡ Going → T.context branch.new ≡ T.context branch.old }
+        ensures stands { result ≡ Going → branch.new.context ≡ branch.old.context }
         ensures pushes { AddsAtMost 1 tally.old tally.new }
         ensures quiet { H.seen hook.new ≡ H.seen hook.old → AddsAtMost 0 tally.old tally.new }
         ensures condition { SameGifts (H.may_give hook.old) (H.may_give hook.new) }
@@ -46,10 +50,10 @@ impl<'a> Search<'a> {
                 Visit::Asserted => {}
                 Visit::Left => {}
                 Visit::Leaf => {
-                    if !back(branch, base) {
+                    if !branch.back(base) {
                         return State::Going;
                     }
-                    match self.turn_right(branch) {
+                    match branch.turn_right() {
                         Ok(()) => {}
                         Err(AllocError) => {
                             tally.lose();

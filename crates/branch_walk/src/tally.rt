@@ -21,7 +21,7 @@ use crate::entries::entries_of;
 use crate::listing::{join_listed, leaf_listed};
 use branch_core::{Listed, Part, Parts, Path};
 use instance_lists::ListError;
-use me_terms::{Bound, Bounds, Problem, Trunk, Tuple};
+use me_terms::{Bound, Bounds, Problem, Tuple, View};
 use std::alloc::{AllocError, Global};
 
 /// What was found so far.
@@ -61,22 +61,22 @@ impl Tally {
     }
 
     /// With a leaf more, which the clause closes with the tuple. Its list is made only where it counts.
-    pub(crate) fn add_closed<T: Trunk>(
+    pub(crate) fn add_closed<V: View>(
         &mut self,
         alloc: Global,
         problem: &Problem,
         bounds: &Bounds,
-        branch: &T,
+        branch: &V,
         clause: u32,
         tuple: &Tuple,
     ) -> Result<(), AllocError>
         requires valid { IsValid problem.now }
         requires bounds { IsLawful bounds.now }
-        requires grown { IsGrownOver problem.now (T.context branch.now) }
-        requires closes { IsNext problem.now bounds.now (T.context branch.now) (Close clause tuple.now.items) }
+        requires grown { IsGrownOver problem.now (V.context branch.now) }
+        requires closes { IsNext problem.now bounds.now (V.context branch.now) (Close clause tuple.now.items) }
         requires open { TakesOwnLeaf self.old }
         requires kept { (leaves : List Piece) × IsTally bounds.now.list self.old leaves }
-        ensures tally { OnOk result ((leaves : List Piece) (list : List InstanceValue) → IsTally bounds.now.list self.old leaves → IsLeafList problem.now (T.context branch.now) clause tuple.now.items list → IsTally bounds.now.list self.new (leaves ++ piece.Closed list ∷ [])) }
+        ensures tally { OnOk result ((leaves : List Piece) (list : List InstanceValue) → IsTally bounds.now.list self.old leaves → IsLeafList problem.now (V.context branch.now) clause tuple.now.items list → IsTally bounds.now.list self.new (leaves ++ piece.Closed list ∷ [])) }
         ensures open { TakesOwnLeaf self.new }
         ensures pushes { AddsAtMost 0 self.old self.new }
         ensures err { OnErr result (self.new ≡ self.old) }
@@ -117,9 +117,9 @@ impl Tally {
     }
 
     /// With an exhausted leaf more.
-    pub(crate) fn add_sat<T: Trunk>(&mut self, alloc: Global, branch: &T) -> Result<(), AllocError>
+    pub(crate) fn add_sat<V: View>(&mut self, alloc: Global, branch: &V) -> Result<(), AllocError>
         requires { TakesOwnLeaf self.old }
-        ensures tally { OnOk result ((list_bound : ℕ) (leaves : List Piece) (turns : Turns) → IsTally list_bound self.old leaves → IsTally list_bound self.new (leaves ++ piece.Sat turns (T.context branch.now) ∷ [])) }
+        ensures tally { OnOk result ((list_bound : ℕ) (leaves : List Piece) (turns : Turns) → IsTally list_bound self.old leaves → IsTally list_bound self.new (leaves ++ piece.Sat turns (V.context branch.now) ∷ [])) }
         ensures sated { OnOk result (IsSated self.new) }
         ensures pushes { AddsAtMost 0 self.old self.new }
         ensures err { OnErr result (self.new ≡ self.old) }

@@ -1,5 +1,5 @@
 //! How a branch grows, goes back to the last left branch, and turns to the right there.
-ghost use Rattle.std.specs.Prelude.{◌≡◌, ◌<◌, ◌≤◌, ◌∷◌, [], ◌++◌, true, false, ◌↔◌, length, take, IsTrue, OnOk, IfOk};
+ghost use Rattle.std.specs.Prelude.{◌≡◌, ◌<◌, ◌≤◌, ◌∷◌, [], ◌++◌, true, false, ◌↔◌, length, take, IsTrue, OnOk, OnErr, IfOk};
 ghost use Rattle.me_terms.specs.Validity.{IsLawful};
 ghost use Rattle.me_terms.specs.Values.{EntryValue, SplitLeft};
 ghost use Rattle.me_terms.specs.Context.{Context, IsLiteralEntry, add};
@@ -19,6 +19,20 @@ pub struct Search<'a> {
     pub bounds: &'a Bounds,
 }
 
+/// Puts an entry at the end of the branch, or leaves the branch as it is where memory is out.
+pub(crate) fn extend<T: Trunk>(branch: &mut T, entry: Entry) -> Result<(), AllocError>
+    requires literal { IsLiteralEntry entry }
+    requires apart { ¬ Contradicts (T.context branch.old) entry.positive entry.kind entry.atom }
+    requires room { length (T.context branch.old) < MAX_ENTRIES }
+    ensures ok { OnOk result (T.context branch.new ≡ add (T.context branch.old) entry) }
+    ensures err { OnErr result (T.context branch.new ≡ T.context branch.old) }
+{
+    match branch.extend(entry) {
+        Ok(()) => Ok(()),
+        Err(_refused) => Err(AllocError),
+    }
+}
+
 /// Puts an entry at the end of the branch.
 pub fn grow<T: Trunk>(branch: &mut T, entry: Entry) -> Result<(), AllocError>
     requires literal { IsLiteralEntry entry }
@@ -26,10 +40,7 @@ pub fn grow<T: Trunk>(branch: &mut T, entry: Entry) -> Result<(), AllocError>
     requires room { length (T.context branch.old) < MAX_ENTRIES }
     ensures { OnOk result (T.context branch.new ≡ add (T.context branch.old) entry) }
 {
-    match branch.extend(entry) {
-        Ok(()) => Ok(()),
-        Err(_refused) => Err(AllocError),
-    }
+    extend(branch, entry)
 }
 
 /// The entry of the left branch of a Split.
@@ -59,7 +70,7 @@ fn ends_left<V: View>(branch: &V) -> bool
 }
 
 /// The entry of the right branch beside the last entry, which begins a left branch.
-fn beside_last<V: View>(alloc: Global, branch: &V) -> Result<Entry, AllocError>
+pub(crate) fn beside_last<V: View>(alloc: Global, branch: &V) -> Result<Entry, AllocError>
     requires { EndsLeft (V.context branch.now) }
     ensures { IfOk result (λ entry. (before : Context) (last : EntryValue) → V.context branch.now ≡ add before last → entry ≡ beside last) }
 {

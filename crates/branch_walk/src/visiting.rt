@@ -8,40 +8,43 @@ ghost use Rattle.me_terms.specs.Next.{IsNext, Exhausted};
 ghost use Rattle.next_rule.specs.NextLaws.{IsAddedBy, MayBeAdded};
 ghost use Rattle.branch_core.specs.Hooks.{SameGifts};
 ghost use Rattle.branch_core.specs.Pieces.{Piece};
+ghost use Rattle.branch_walk.specs.Along.{IsOf};
 ghost use Rattle.branch_walk.specs.Tallies.{IsTally, AddsAtMost, TakesOwnLeaf};
 ghost use Rattle.branch_walk.specs.Walks.{Hears, IsVisited};
 
 use crate::job::Job;
+use crate::kept::KeptBranch;
 use crate::keys::{node_key, told_cut};
 use crate::state::Visit;
 use crate::tally::Tally;
-use crate::turning::{Search, grow, left_entry};
+use crate::turning::{Search, left_entry};
 use branch_core::Hook;
-use me_terms::{Next, Trunk};
-use next_rule::next_step;
+use me_terms::{Next, Trunk, View};
 use std::alloc::AllocError;
 
 impl<'a> Search<'a> {
     /// Does what is next at the branch's node, unless a smaller key than the node's was told.
     pub(crate) fn visit<T: Trunk, H: Hook<Job<T>>>(
         &self,
-        branch: &mut T,
+        branch: &mut KeptBranch<'a, T>,
         tally: &mut Tally,
         hook: &mut H,
     ) -> Visit
         requires valid { IsValid self.now.problem.now }
         requires bounds { IsLawful self.now.bounds.now }
-        requires grown { IsGrown self.now.problem.now self.now.bounds.now (T.context branch.old) }
+        requires of { IsOf self.now.problem.now self.now.bounds.now branch.old }
+        requires grown { IsGrown self.now.problem.now self.now.bounds.now branch.old.context }
         requires open { TakesOwnLeaf tally.old }
         requires kept { (before : List Piece) × IsTally self.now.bounds.now.list tally.old before }
-        ensures visited { (told sent : List ℕ) × Hears (record { given = H.given hook.old; seen = H.seen hook.old; posted = H.posted hook.old }) (record { given = H.given hook.new; seen = H.seen hook.new; posted = H.posted hook.new }) [] told sent × IsVisited self.now.problem.now self.now.bounds.now (T.context branch.old) (T.context branch.new) tally.old tally.new told sent result }
+        ensures of { IsOf self.now.problem.now self.now.bounds.now branch.new }
+        ensures visited { (told sent : List ℕ) × Hears (record { given = H.given hook.old; seen = H.seen hook.old; posted = H.posted hook.old }) (record { given = H.given hook.new; seen = H.seen hook.new; posted = H.posted hook.new }) [] told sent × IsVisited self.now.problem.now self.now.bounds.now branch.old.context branch.new.context tally.old tally.new told sent result }
         ensures pushes { AddsAtMost 0 tally.old tally.new }
         ensures condition { SameGifts (H.may_give hook.old) (H.may_give hook.new) }
     {
         if let Some(key) = told_cut(branch, hook) {
             return Visit::Cut { key };
         }
-        match next_step(self.alloc, self.problem, branch, self.bounds) {
+        match branch.next() {
             Ok(next) => self.enter(next, branch, tally, hook),
             Err(AllocError) => Visit::Lost,
         }
@@ -51,27 +54,29 @@ impl<'a> Search<'a> {
     fn enter<T: Trunk, H: Hook<Job<T>>>(
         &self,
         next: Next,
-        branch: &mut T,
+        branch: &mut KeptBranch<'a, T>,
         tally: &mut Tally,
         hook: &mut H,
     ) -> Visit
         requires valid { IsValid self.now.problem.now }
         requires bounds { IsLawful self.now.bounds.now }
-        requires grown { IsGrown self.now.problem.now self.now.bounds.now (T.context branch.old) }
+        requires of { IsOf self.now.problem.now self.now.bounds.now branch.old }
+        requires grown { IsGrown self.now.problem.now self.now.bounds.now branch.old.context }
         requires open { TakesOwnLeaf tally.old }
         requires kept { (before : List Piece) × IsTally self.now.bounds.now.list tally.old before }
-        requires next { IsNext self.now.problem.now self.now.bounds.now (T.context branch.old) (next_value next) }
-        requires added { (e : EntryValue) → IsAddedBy (next_value next) e → MayBeAdded self.now.bounds.now (T.context branch.old) e }
-        ensures visited { (sent : List ℕ) × Hears (record { given = H.given hook.old; seen = H.seen hook.old; posted = H.posted hook.old }) (record { given = H.given hook.new; seen = H.seen hook.new; posted = H.posted hook.new }) [] [] sent × ((told : List ℕ) → IsVisited self.now.problem.now self.now.bounds.now (T.context branch.old) (T.context branch.new) tally.old tally.new told sent result) }
+        requires next { IsNext self.now.problem.now self.now.bounds.now branch.old.context (next_value next) }
+        requires added { (e : EntryValue) → IsAddedBy (next_value next) e → MayBeAdded self.now.bounds.now branch.old.context e }
+        ensures of { IsOf self.now.problem.now self.now.bounds.now branch.new }
+        ensures visited { (sent : List ℕ) × Hears (record { given = H.given hook.old; seen = H.seen hook.old; posted = H.posted hook.old }) (record { given = H.given hook.new; seen = H.seen hook.new; posted = H.posted hook.new }) [] [] sent × ((told : List ℕ) → IsVisited self.now.problem.now self.now.bounds.now branch.old.context branch.new.context tally.old tally.new told sent result) }
         ensures pushes { AddsAtMost 0 tally.old tally.new }
         ensures condition { SameGifts (H.may_give hook.old) (H.may_give hook.new) }
     {
         match next {
-            Next::Assert { entry } => match grow(branch, entry) {
+            Next::Assert { entry } => match branch.grow(entry) {
                 Ok(()) => Visit::Asserted,
                 Err(AllocError) => Visit::Lost,
             },
-            Next::Split { literal, kind } => match grow(branch, left_entry(literal, kind)) {
+            Next::Split { literal, kind } => match branch.grow(left_entry(literal, kind)) {
                 Ok(()) => Visit::Left,
                 Err(AllocError) => Visit::Lost,
             },
@@ -97,15 +102,15 @@ impl<'a> Search<'a> {
     }
 
     /// Adds the branch's context, at which nothing is left to do, and posts its key.
-    fn exhausted<T: Trunk, H: Hook<Job<T>>>(
+    fn exhausted<V: View, J, H: Hook<J>>(
         &self,
-        branch: &T,
+        branch: &V,
         tally: &mut Tally,
         hook: &mut H,
     ) -> Visit
         requires open { TakesOwnLeaf tally.old }
-        requires next { IsNext self.now.problem.now self.now.bounds.now (T.context branch.now) Exhausted }
-        ensures visited { (sent : List ℕ) × Hears (record { given = H.given hook.old; seen = H.seen hook.old; posted = H.posted hook.old }) (record { given = H.given hook.new; seen = H.seen hook.new; posted = H.posted hook.new }) [] [] sent × ((told : List ℕ) → IsVisited self.now.problem.now self.now.bounds.now (T.context branch.now) (T.context branch.now) tally.old tally.new told sent result) }
+        requires next { IsNext self.now.problem.now self.now.bounds.now (V.context branch.now) Exhausted }
+        ensures visited { (sent : List ℕ) × Hears (record { given = H.given hook.old; seen = H.seen hook.old; posted = H.posted hook.old }) (record { given = H.given hook.new; seen = H.seen hook.new; posted = H.posted hook.new }) [] [] sent × ((told : List ℕ) → IsVisited self.now.problem.now self.now.bounds.now (V.context branch.now) (V.context branch.now) tally.old tally.new told sent result) }
         ensures pushes { AddsAtMost 0 tally.old tally.new }
         ensures condition { SameGifts (H.may_give hook.old) (H.may_give hook.new) }
     {

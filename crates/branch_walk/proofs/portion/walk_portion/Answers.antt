@@ -5,19 +5,19 @@ use Rattle.branch_walk.proofs.PortionEnds.{portion}
 use Rattle.branch_walk.proofs.StaysApart.{joined_through}
 use Rattle.branch_walk.proofs.portion.walk_portion.Goals as goal
 
-pub spine-state-requires-clause-kept : goal.spine-state-requires-clause-kept
-spine-state-requires-clause-kept g c = ([], c.new-tally.ensures.tally c.args.bounds.now.list)
+pub walk-state-requires-clause-kept : goal.walk-state-requires-clause-kept
+walk-state-requires-clause-kept g c = ([], c.new-tally.ensures.tally c.args.bounds.now.list)
 
 pub returns-clause-portion : goal.returns-clause-portion
 returns-clause-portion g c =
     let problem = c.args.problem.now in
     let bounds = c.args.bounds.now in
     let path = c.args.job.path in
-    let w = c.spine-state.ensures.walked in
+    let w = c.walk-state.ensures.walked in
     let done = c.finish.ensures.pieces bounds.list w.more (w.tally [] (c.new-tally.ensures.tally bounds.list)) in
     let through = joined_through bounds.list done.0 (subst AllStandApart done.2 done.3) in
     let first : Heard = record { given = g.H.Hook.given c.args.hook.now; seen = g.H.Hook.seen c.args.hook.now; posted = g.H.Hook.posted c.args.hook.now } in
-    let now : Heard = record { given = g.H.Hook.given c.spine-state.new.hook; seen = g.H.Hook.seen c.spine-state.new.hook; posted = g.H.Hook.posted c.spine-state.new.hook } in (
+    let now : Heard = record { given = g.H.Hook.given c.walk-state.new.hook; seen = g.H.Hook.seen c.walk-state.new.hook; posted = g.H.Hook.posted c.walk-state.new.hook } in (
       w.told,
       w.sent,
       w.gave,
@@ -25,5 +25,5 @@ returns-clause-portion g c =
       w.hears.given,
       w.hears.posted,
       λ search tree.
-          portion problem bounds c.args.share path (g.T.View.context c.args.job.branch) c.requires.job.0.grown c.requires.job.0.turns c.spine-state.result first now c.new-tally.result c.spine-state.new.tally w done.0 done.1 through _ (λ i. record { path = path; parts = done.2 i }) search tree,
+          portion problem bounds c.args.share path (g.T.View.context c.args.job.branch) c.requires.job.0.grown c.requires.job.0.turns c.walk-state.result first now c.new-tally.result c.walk-state.new.tally w done.0 done.1 through _ (λ i. record { path = path; parts = done.2 i }) search tree,
     )

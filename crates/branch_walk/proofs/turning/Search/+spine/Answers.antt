@@ -4,7 +4,7 @@ use Rattle.me_terms.specs.Grown.{IsGrown, went_left}
 use Rattle.branch_core.specs.Paths.{Turns}
 use Rattle.branch_walk.specs.Jobs.{IsJob, turns_taken}
 use Rattle.branch_walk.specs.Tallies.{IsTally, TakesOwnLeaf}
-use Rattle.branch_walk.specs.Walks.{Heard, HasWalkedLeft}
+use Rattle.branch_walk.specs.Walks.{Heard, HasWalkedLeft, IsBeside}
 use Rattle.branch_walk.specs.declared.tally.Tally.{Tally}
 use Rattle.branch_walk.proofs.Descents.{lifted}
 use Rattle.branch_walk.proofs.Spines.{given_deeper, given_if, right_given}
@@ -15,7 +15,7 @@ pub give_right-away-requires-clause-hook : goal.give_right-away-requires-clause-
 give_right-away-requires-clause-hook g t c = λ work job is.
     let problem = c.args.self.now.problem.now in
     let bounds = c.args.self.now.bounds.now in
-    let context = g.T.View.context c.args.branch.now in
+    let context = c.args.branch.now.context in
     let e = c.in_default.ensures in
     let told = e.ended.0 in
     let node = e.ended.1 in
@@ -36,7 +36,7 @@ pub give_right-away-requires-clause-beside : goal.give_right-away-requires-claus
 give_right-away-requires-clause-beside g t c =
     let problem = c.args.self.now.problem.now in
     let bounds = c.args.self.now.bounds.now in
-    let context = g.T.View.context c.args.branch.now in
+    let context = c.args.branch.now.context in
     let e = c.in_default.ensures in
     let told = e.ended.0 in
     let node = e.ended.1 in
@@ -51,13 +51,14 @@ give_right-away-requires-clause-beside g t c =
     let many = ap (λ (t : Turns). length t) right_is in
     let more = length-append c.args.path (true ∷ []) in
     let few : length right ≤ c.args.share = omega (arith, number, many, more, c.from.ensures, c.if-from-share.false) in
-    record { node = node; grown = leads.grown; split = split; right_is = right_is ∙ ap (λ (t : Turns). t ++ true ∷ []) (sym path_is) }
+    let B : Context → Type 0 = λ z. IsBeside problem bounds right z in
+    subst B (sym c.trunk.ensures) (record { node = node; grown = leads.grown; split = split; right_is = right_is ∙ ap (λ (t : Turns). t ++ true ∷ []) (sym path_is) })
 
 pub spine-state-requires : goal.spine-state-requires
 spine-state-requires g t c κs within =
     let problem = c.args.self.now.problem.now in
     let bounds = c.args.self.now.bounds.now in
-    let context = g.T.View.context c.args.branch.now in
+    let context = c.args.branch.now.context in
     let e = c.in_default.ensures in
     let told = e.ended.0 in
     let node = e.ended.1 in
@@ -81,7 +82,7 @@ spine-state-requires g t c κs within =
     let T : Tally → Type 0 = λ t. IsTally bounds.list t c.requires.kept.0 in
     let room = c.requires.room in
     let spare = ap (λ (t : Tally). t.parts.spare) same in
-    let job : IsJob problem bounds left (g.T.View.context c.to_split.new.branch) = record {
+    let job : IsJob problem bounds left (c.to_split.new.branch.context) = record {
       grown = subst G (sym split.is) (went_left leads.grown split.next);
       turns = ap turns_taken split.is ∙ (turns_left node split.l split.kind ∙ (ap (λ (t : Turns). t ++ false ∷ []) path_is ∙ sym left_is));
     } in (
@@ -97,14 +98,17 @@ spine-state-requires g t c κs within =
               (
                 c.requires.share,
                 (
-                  job,
+                  c.to_split.ensures.of,
                   (
-                    subst O (sym same) c.requires.open,
+                    job,
                     (
-                      (c.requires.kept.0, subst T (sym same) c.requires.kept.1),
+                      subst O (sym same) c.requires.open,
                       (
-                        omega (arith, number, long, one_more, c.from.ensures, c.if-from-share.false, room, spare),
-                        λ gift work may is_job is. (c.give_right-away.ensures.condition gift work).0 ((c.to_split.ensures.condition gift work).0 (c.requires.hook gift work (given_deeper c.args.share c.args.path left gift left_is may) is_job is)),
+                        (c.requires.kept.0, subst T (sym same) c.requires.kept.1),
+                        (
+                          omega (arith, number, long, one_more, c.from.ensures, c.if-from-share.false, room, spare),
+                          λ gift work may is_job is. (c.give_right-away.ensures.condition gift work).0 ((c.to_split.ensures.condition gift work).0 (c.requires.hook gift work (given_deeper c.args.share c.args.path left gift left_is may) is_job is)),
+                        ),
                       ),
                     ),
                   ),
@@ -120,7 +124,7 @@ pub after_left-requires-clause-kept : goal.after_left-requires-clause-kept
 after_left-requires-clause-kept g t c =
     let problem = c.args.self.now.problem.now in
     let bounds = c.args.self.now.bounds.now in
-    let context = g.T.View.context c.args.branch.now in
+    let context = c.args.branch.now.context in
     let e = c.in_default.ensures in
     let told = e.ended.0 in
     let node = e.ended.1 in
@@ -142,7 +146,7 @@ pub after_left-requires-clause-room : goal.after_left-requires-clause-room
 after_left-requires-clause-room g t c =
     let problem = c.args.self.now.problem.now in
     let bounds = c.args.self.now.bounds.now in
-    let context = g.T.View.context c.args.branch.now in
+    let context = c.args.branch.now.context in
     let e = c.in_default.ensures in
     let told = e.ended.0 in
     let node = e.ended.1 in
@@ -169,7 +173,7 @@ pub after_left-requires-clause-left : goal.after_left-requires-clause-left
 after_left-requires-clause-left g t c =
     let problem = c.args.self.now.problem.now in
     let bounds = c.args.self.now.bounds.now in
-    let context = g.T.View.context c.args.branch.now in
+    let context = c.args.branch.now.context in
     let e = c.in_default.ensures in
     let told = e.ended.0 in
     let node = e.ended.1 in
@@ -189,8 +193,8 @@ after_left-requires-clause-left g t c =
     let given : Heard = record { given = g.H.Hook.given c.give_right-away.new.hook; seen = g.H.Hook.seen c.give_right-away.new.hook; posted = g.H.Hook.posted c.give_right-away.new.hook } in
     let left_now : Heard = record { given = g.H.Hook.given c.spine-state.new.hook; seen = g.H.Hook.seen c.spine-state.new.hook; posted = g.H.Hook.posted c.spine-state.new.hook } in
     let gift = c.give_right-away.ensures in
-    let hl : HasWalkedLeft problem bounds c.args.share c.give_right-away.result right c.len-base.result c.spine-state.result (g.T.View.context c.spine-state.new.branch) node start left_now c.to_split.new.tally c.spine-state.new.tally = record {
-      left = g.T.View.context c.to_split.new.branch;
+    let hl : HasWalkedLeft problem bounds c.args.share c.give_right-away.result right c.len-base.result c.spine-state.result (c.spine-state.new.branch.context) node start left_now c.to_split.new.tally c.spine-state.new.tally = record {
+      left = c.to_split.new.branch.context;
       heard = given;
       grown = leads.grown;
       split = split;
@@ -211,7 +215,7 @@ pub returns-clause-walked : goal.returns-clause-walked
 returns-clause-walked g t c =
     let problem = c.args.self.now.problem.now in
     let bounds = c.args.self.now.bounds.now in
-    let context = g.T.View.context c.args.branch.now in
+    let context = c.args.branch.now.context in
     let e = c.in_default.ensures in
     let told = e.ended.0 in
     let node = e.ended.1 in
@@ -231,8 +235,8 @@ returns-clause-walked g t c =
     let given : Heard = record { given = g.H.Hook.given c.give_right-away.new.hook; seen = g.H.Hook.seen c.give_right-away.new.hook; posted = g.H.Hook.posted c.give_right-away.new.hook } in
     let left_now : Heard = record { given = g.H.Hook.given c.spine-state.new.hook; seen = g.H.Hook.seen c.spine-state.new.hook; posted = g.H.Hook.posted c.spine-state.new.hook } in
     let gift = c.give_right-away.ensures in
-    let hl : HasWalkedLeft problem bounds c.args.share c.give_right-away.result right c.len-base.result c.spine-state.result (g.T.View.context c.spine-state.new.branch) node start left_now c.to_split.new.tally c.spine-state.new.tally = record {
-      left = g.T.View.context c.to_split.new.branch;
+    let hl : HasWalkedLeft problem bounds c.args.share c.give_right-away.result right c.len-base.result c.spine-state.result (c.spine-state.new.branch.context) node start left_now c.to_split.new.tally c.spine-state.new.tally = record {
+      left = c.to_split.new.branch.context;
       heard = given;
       grown = leads.grown;
       split = split;
@@ -255,7 +259,7 @@ pub returns-clause-stands : goal.returns-clause-stands
 returns-clause-stands g t c = λ going.
     let problem = c.args.self.now.problem.now in
     let bounds = c.args.self.now.bounds.now in
-    let context = g.T.View.context c.args.branch.now in
+    let context = c.args.branch.now.context in
     let e = c.in_default.ensures in
     let told = e.ended.0 in
     let node = e.ended.1 in
@@ -275,8 +279,8 @@ returns-clause-stands g t c = λ going.
     let given : Heard = record { given = g.H.Hook.given c.give_right-away.new.hook; seen = g.H.Hook.seen c.give_right-away.new.hook; posted = g.H.Hook.posted c.give_right-away.new.hook } in
     let left_now : Heard = record { given = g.H.Hook.given c.spine-state.new.hook; seen = g.H.Hook.seen c.spine-state.new.hook; posted = g.H.Hook.posted c.spine-state.new.hook } in
     let gift = c.give_right-away.ensures in
-    let hl : HasWalkedLeft problem bounds c.args.share c.give_right-away.result right c.len-base.result c.spine-state.result (g.T.View.context c.spine-state.new.branch) node start left_now c.to_split.new.tally c.spine-state.new.tally = record {
-      left = g.T.View.context c.to_split.new.branch;
+    let hl : HasWalkedLeft problem bounds c.args.share c.give_right-away.result right c.len-base.result c.spine-state.result (c.spine-state.new.branch.context) node start left_now c.to_split.new.tally c.spine-state.new.tally = record {
+      left = c.to_split.new.branch.context;
       heard = given;
       grown = leads.grown;
       split = split;
@@ -299,7 +303,7 @@ pub returns-clause-pushes : goal.returns-clause-pushes
 returns-clause-pushes g t c =
     let problem = c.args.self.now.problem.now in
     let bounds = c.args.self.now.bounds.now in
-    let context = g.T.View.context c.args.branch.now in
+    let context = c.args.branch.now.context in
     let e = c.in_default.ensures in
     let told = e.ended.0 in
     let node = e.ended.1 in

@@ -4,7 +4,7 @@ use Rattle.branch_walk.proofs.turning.Search.exhausted.Goals as goal
 
 pub returns-in-Ok-clause-visited : goal.returns-in-Ok-clause-visited
 returns-in-Ok-clause-visited g c =
-    let context = g.T.View.context c.args.branch.now in
+    let context = g.V.View.context c.args.branch.now in
     let list = c.args.self.now.bounds.now.list in (
       c.node_key-key.result ∷ [],
       record {

@@ -7,6 +7,7 @@ use Rattle.branch_walk.specs.Walks.{Heard}
 use Rattle.branch_core.specs.Paths.{Turns}
 use Rattle.branch_walk.specs.declared.state.Visit.TheVariants as visit
 use Rattle.branch_walk.specs.declared.tally.Tally.{Tally}
+use Rattle.branch_walk.proofs.Alongside.{grown_of, still_of}
 use Rattle.branch_walk.proofs.OwnParts.{told_longer}
 use Rattle.branch_walk.proofs.Pushes.{adds_none, adds_then, open_loses}
 use Rattle.me_terms.specs.Grown.{IsGrown}
@@ -21,7 +22,8 @@ pub walk-init : goal.walk-init
 walk-init g c =
     let first : Heard = record { given = g.H.Hook.given c.args.hook.now; seen = g.H.Hook.seen c.args.hook.now; posted = g.H.Hook.posted c.args.hook.now } in
     record {
-      walking = walk_begins c.args.self.now.problem.now c.args.self.now.bounds.now (g.T.View.context c.args.branch.now) first c.args.tally.now c.requires.grown c.requires.open;
+      of = c.requires.of;
+      walking = walk_begins c.args.self.now.problem.now c.args.self.now.bounds.now (c.args.branch.now.context) first c.args.tally.now c.requires.grown c.requires.open;
       pushes = adds_none c.args.tally.now;
       condition = λ path work. (λ h. h, λ h. h);
     }
@@ -33,9 +35,9 @@ pub walk-smaller-in-Asserted : goal.walk-smaller-in-Asserted
 walk-smaller-in-Asserted g c =
     let problem = c.args.self.now.problem.now in
     let bounds = c.args.self.now.bounds.now in
-    let root = g.T.View.context c.args.branch.now in
-    let from = g.T.View.context c.walk.branch in
-    let to = g.T.View.context c.visit.new.branch in
+    let root = c.args.branch.now.context in
+    let from = c.walk.branch.context in
+    let to = c.visit.new.branch.context in
     let first : Heard = record { given = g.H.Hook.given c.args.hook.now; seen = g.H.Hook.seen c.args.hook.now; posted = g.H.Hook.posted c.args.hook.now } in
     let h : Heard = record { given = g.H.Hook.given c.walk.hook; seen = g.H.Hook.seen c.walk.hook; posted = g.H.Hook.posted c.walk.hook } in
     let now : Heard = record { given = g.H.Hook.given c.visit.new.hook; seen = g.H.Hook.seen c.visit.new.hook; posted = g.H.Hook.posted c.visit.new.hook } in
@@ -48,9 +50,9 @@ pub walk-preserved-in-Asserted : goal.walk-preserved-in-Asserted
 walk-preserved-in-Asserted g c =
     let problem = c.args.self.now.problem.now in
     let bounds = c.args.self.now.bounds.now in
-    let root = g.T.View.context c.args.branch.now in
-    let from = g.T.View.context c.walk.branch in
-    let to = g.T.View.context c.visit.new.branch in
+    let root = c.args.branch.now.context in
+    let from = c.walk.branch.context in
+    let to = c.visit.new.branch.context in
     let first : Heard = record { given = g.H.Hook.given c.args.hook.now; seen = g.H.Hook.seen c.args.hook.now; posted = g.H.Hook.posted c.args.hook.now } in
     let h : Heard = record { given = g.H.Hook.given c.walk.hook; seen = g.H.Hook.seen c.walk.hook; posted = g.H.Hook.posted c.walk.hook } in
     let now : Heard = record { given = g.H.Hook.given c.visit.new.hook; seen = g.H.Hook.seen c.visit.new.hook; posted = g.H.Hook.posted c.visit.new.hook } in
@@ -58,6 +60,7 @@ walk-preserved-in-Asserted g c =
     let v = c.visit.ensures.visited in
     let at = visited_at problem bounds from to c.walk.tally c.visit.new.tally v.0 v.1 c.visit.result visit.Asserted c.in-Asserted.is v.3 in
     record {
+      of = c.visit.ensures.of;
       walking = walk_asserts problem bounds root first c.args.tally.now from to h now c.walk.tally c.visit.new.tally v.0 v.1 w v.2 at;
       pushes = adds_then c.walk.invariant.pushes c.visit.ensures.pushes;
       condition = same_gifts c.walk.invariant.condition c.visit.ensures.condition;
@@ -67,9 +70,9 @@ pub walk-smaller-in-Left : goal.walk-smaller-in-Left
 walk-smaller-in-Left g c =
     let problem = c.args.self.now.problem.now in
     let bounds = c.args.self.now.bounds.now in
-    let root = g.T.View.context c.args.branch.now in
-    let from = g.T.View.context c.walk.branch in
-    let to = g.T.View.context c.visit.new.branch in
+    let root = c.args.branch.now.context in
+    let from = c.walk.branch.context in
+    let to = c.visit.new.branch.context in
     let first : Heard = record { given = g.H.Hook.given c.args.hook.now; seen = g.H.Hook.seen c.args.hook.now; posted = g.H.Hook.posted c.args.hook.now } in
     let h : Heard = record { given = g.H.Hook.given c.walk.hook; seen = g.H.Hook.seen c.walk.hook; posted = g.H.Hook.posted c.walk.hook } in
     let now : Heard = record { given = g.H.Hook.given c.visit.new.hook; seen = g.H.Hook.seen c.visit.new.hook; posted = g.H.Hook.posted c.visit.new.hook } in
@@ -82,9 +85,9 @@ pub walk-preserved-in-Left : goal.walk-preserved-in-Left
 walk-preserved-in-Left g c =
     let problem = c.args.self.now.problem.now in
     let bounds = c.args.self.now.bounds.now in
-    let root = g.T.View.context c.args.branch.now in
-    let from = g.T.View.context c.walk.branch in
-    let to = g.T.View.context c.visit.new.branch in
+    let root = c.args.branch.now.context in
+    let from = c.walk.branch.context in
+    let to = c.visit.new.branch.context in
     let first : Heard = record { given = g.H.Hook.given c.args.hook.now; seen = g.H.Hook.seen c.args.hook.now; posted = g.H.Hook.posted c.args.hook.now } in
     let h : Heard = record { given = g.H.Hook.given c.walk.hook; seen = g.H.Hook.seen c.walk.hook; posted = g.H.Hook.posted c.walk.hook } in
     let now : Heard = record { given = g.H.Hook.given c.visit.new.hook; seen = g.H.Hook.seen c.visit.new.hook; posted = g.H.Hook.posted c.visit.new.hook } in
@@ -92,6 +95,7 @@ walk-preserved-in-Left g c =
     let v = c.visit.ensures.visited in
     let at = visited_at problem bounds from to c.walk.tally c.visit.new.tally v.0 v.1 c.visit.result visit.Left c.in-Left.is v.3 in
     record {
+      of = c.visit.ensures.of;
       walking = walk_left problem bounds root first c.args.tally.now from to h now c.walk.tally c.visit.new.tally v.0 v.1 w v.2 at;
       pushes = adds_then c.walk.invariant.pushes c.visit.ensures.pushes;
       condition = same_gifts c.walk.invariant.condition c.visit.ensures.condition;
@@ -101,9 +105,9 @@ pub back-requires : goal.back-requires
 back-requires g c =
     let problem = c.args.self.now.problem.now in
     let bounds = c.args.self.now.bounds.now in
-    let root = g.T.View.context c.args.branch.now in
-    let from = g.T.View.context c.walk.branch in
-    let to = g.T.View.context c.visit.new.branch in
+    let root = c.args.branch.now.context in
+    let from = c.walk.branch.context in
+    let to = c.visit.new.branch.context in
     let first : Heard = record { given = g.H.Hook.given c.args.hook.now; seen = g.H.Hook.seen c.args.hook.now; posted = g.H.Hook.posted c.args.hook.now } in
     let h : Heard = record { given = g.H.Hook.given c.walk.hook; seen = g.H.Hook.seen c.walk.hook; posted = g.H.Hook.posted c.walk.hook } in
     let now : Heard = record { given = g.H.Hook.given c.visit.new.hook; seen = g.H.Hook.seen c.visit.new.hook; posted = g.H.Hook.posted c.visit.new.hook } in
@@ -120,16 +124,16 @@ pub returns-then-not-back-clause-walked : goal.returns-then-not-back-clause-walk
 returns-then-not-back-clause-walked g c =
     let problem = c.args.self.now.problem.now in
     let bounds = c.args.self.now.bounds.now in
-    let root = g.T.View.context c.args.branch.now in
-    let from = g.T.View.context c.walk.branch in
-    let to = g.T.View.context c.visit.new.branch in
+    let root = c.args.branch.now.context in
+    let from = c.walk.branch.context in
+    let to = c.visit.new.branch.context in
     let first : Heard = record { given = g.H.Hook.given c.args.hook.now; seen = g.H.Hook.seen c.args.hook.now; posted = g.H.Hook.posted c.args.hook.now } in
     let h : Heard = record { given = g.H.Hook.given c.walk.hook; seen = g.H.Hook.seen c.walk.hook; posted = g.H.Hook.posted c.walk.hook } in
     let now : Heard = record { given = g.H.Hook.given c.visit.new.hook; seen = g.H.Hook.seen c.visit.new.hook; posted = g.H.Hook.posted c.visit.new.hook } in
     let w = c.walk.invariant.walking in
     let v = c.visit.ensures.visited in
     let at = visited_at problem bounds from to c.walk.tally c.visit.new.tally v.0 v.1 c.visit.result visit.Leaf c.in-Leaf.is v.3 in
-    let end = g.T.View.context c.back.new.branch in
+    let end = c.back.new.self.context in
     let B : ℕ × Context → Type 0 = λ z. IsAllBack z.0 z.1 end in
     let number = c.len-base.ensures.number in
     let gone = subst B (λ i. (number i, at.1 i)) (c.back.ensures.none c.if-not-back.true) in
@@ -139,16 +143,16 @@ pub returns-then-not-back-clause-stands : goal.returns-then-not-back-clause-stan
 returns-then-not-back-clause-stands g c =
     let problem = c.args.self.now.problem.now in
     let bounds = c.args.self.now.bounds.now in
-    let root = g.T.View.context c.args.branch.now in
-    let from = g.T.View.context c.walk.branch in
-    let to = g.T.View.context c.visit.new.branch in
+    let root = c.args.branch.now.context in
+    let from = c.walk.branch.context in
+    let to = c.visit.new.branch.context in
     let first : Heard = record { given = g.H.Hook.given c.args.hook.now; seen = g.H.Hook.seen c.args.hook.now; posted = g.H.Hook.posted c.args.hook.now } in
     let h : Heard = record { given = g.H.Hook.given c.walk.hook; seen = g.H.Hook.seen c.walk.hook; posted = g.H.Hook.posted c.walk.hook } in
     let now : Heard = record { given = g.H.Hook.given c.visit.new.hook; seen = g.H.Hook.seen c.visit.new.hook; posted = g.H.Hook.posted c.visit.new.hook } in
     let w = c.walk.invariant.walking in
     let v = c.visit.ensures.visited in
     let at = visited_at problem bounds from to c.walk.tally c.visit.new.tally v.0 v.1 c.visit.result visit.Leaf c.in-Leaf.is v.3 in
-    let end = g.T.View.context c.back.new.branch in
+    let end = c.back.new.self.context in
     let B : ℕ × Context → Type 0 = λ z. IsAllBack z.0 z.1 end in
     let number = c.len-base.ensures.number in
     let gone = subst B (λ i. (number i, at.1 i)) (c.back.ensures.none c.if-not-back.true) in
@@ -158,38 +162,39 @@ pub turn_right-requires-clause-grown : goal.turn_right-requires-clause-grown
 turn_right-requires-clause-grown g c =
     let problem = c.args.self.now.problem.now in
     let bounds = c.args.self.now.bounds.now in
-    let root = g.T.View.context c.args.branch.now in
-    let from = g.T.View.context c.walk.branch in
-    let to = g.T.View.context c.visit.new.branch in
+    let root = c.args.branch.now.context in
+    let from = c.walk.branch.context in
+    let to = c.visit.new.branch.context in
     let first : Heard = record { given = g.H.Hook.given c.args.hook.now; seen = g.H.Hook.seen c.args.hook.now; posted = g.H.Hook.posted c.args.hook.now } in
     let h : Heard = record { given = g.H.Hook.given c.walk.hook; seen = g.H.Hook.seen c.walk.hook; posted = g.H.Hook.posted c.walk.hook } in
     let now : Heard = record { given = g.H.Hook.given c.visit.new.hook; seen = g.H.Hook.seen c.visit.new.hook; posted = g.H.Hook.posted c.visit.new.hook } in
     let w = c.walk.invariant.walking in
     let v = c.visit.ensures.visited in
     let at = visited_at problem bounds from to c.walk.tally c.visit.new.tally v.0 v.1 c.visit.result visit.Leaf c.in-Leaf.is v.3 in
-    let end = g.T.View.context c.back.new.branch in
+    let end = c.back.new.self.context in
     let B : ℕ × Context → Type 0 = λ z. IsBackAtLeft z.0 z.1 end in
     let number = c.len-base.ensures.number in
     let there = subst B (λ i. (number i, at.1 i)) (c.back.ensures.left c.if-not-back.false) in
     let above = there.above in
     let some = grown_some c.requires.grown in
     let G : Context → Type 0 = λ x. IsGrown problem bounds x in
-    subst G (sym there.now_is) (left_grown problem bounds from there.before there.later there.left w.grown there.was (omega (arith, above, some)) there.is_left)
+    let of = still_of problem bounds c.visit.new.branch c.back.new.self c.visit.ensures.of c.back.ensures.same in
+    grown_of problem bounds c.back.new.self of (subst G (sym there.now_is) (left_grown problem bounds from there.before there.later there.left w.grown there.was (omega (arith, above, some)) there.is_left))
 
 pub turn_right-requires-clause-left : goal.turn_right-requires-clause-left
 turn_right-requires-clause-left g c =
     let problem = c.args.self.now.problem.now in
     let bounds = c.args.self.now.bounds.now in
-    let root = g.T.View.context c.args.branch.now in
-    let from = g.T.View.context c.walk.branch in
-    let to = g.T.View.context c.visit.new.branch in
+    let root = c.args.branch.now.context in
+    let from = c.walk.branch.context in
+    let to = c.visit.new.branch.context in
     let first : Heard = record { given = g.H.Hook.given c.args.hook.now; seen = g.H.Hook.seen c.args.hook.now; posted = g.H.Hook.posted c.args.hook.now } in
     let h : Heard = record { given = g.H.Hook.given c.walk.hook; seen = g.H.Hook.seen c.walk.hook; posted = g.H.Hook.posted c.walk.hook } in
     let now : Heard = record { given = g.H.Hook.given c.visit.new.hook; seen = g.H.Hook.seen c.visit.new.hook; posted = g.H.Hook.posted c.visit.new.hook } in
     let w = c.walk.invariant.walking in
     let v = c.visit.ensures.visited in
     let at = visited_at problem bounds from to c.walk.tally c.visit.new.tally v.0 v.1 c.visit.result visit.Leaf c.in-Leaf.is v.3 in
-    let end = g.T.View.context c.back.new.branch in
+    let end = c.back.new.self.context in
     let B : ℕ × Context → Type 0 = λ z. IsBackAtLeft z.0 z.1 end in
     let number = c.len-base.ensures.number in
     let there = subst B (λ i. (number i, at.1 i)) (c.back.ensures.left c.if-not-back.false) in
@@ -201,16 +206,16 @@ pub returns-in-Err-clause-walked : goal.returns-in-Err-clause-walked
 returns-in-Err-clause-walked g c =
     let problem = c.args.self.now.problem.now in
     let bounds = c.args.self.now.bounds.now in
-    let root = g.T.View.context c.args.branch.now in
-    let from = g.T.View.context c.walk.branch in
-    let to = g.T.View.context c.visit.new.branch in
+    let root = c.args.branch.now.context in
+    let from = c.walk.branch.context in
+    let to = c.visit.new.branch.context in
     let first : Heard = record { given = g.H.Hook.given c.args.hook.now; seen = g.H.Hook.seen c.args.hook.now; posted = g.H.Hook.posted c.args.hook.now } in
     let h : Heard = record { given = g.H.Hook.given c.walk.hook; seen = g.H.Hook.seen c.walk.hook; posted = g.H.Hook.posted c.walk.hook } in
     let now : Heard = record { given = g.H.Hook.given c.visit.new.hook; seen = g.H.Hook.seen c.visit.new.hook; posted = g.H.Hook.posted c.visit.new.hook } in
     let w = c.walk.invariant.walking in
     let v = c.visit.ensures.visited in
     let at = visited_at problem bounds from to c.walk.tally c.visit.new.tally v.0 v.1 c.visit.result visit.Leaf c.in-Leaf.is v.3 in
-    let end = g.T.View.context c.back.new.branch in
+    let end = c.back.new.self.context in
     let B : ℕ × Context → Type 0 = λ z. IsBackAtLeft z.0 z.1 end in
     let number = c.len-base.ensures.number in
     let there = subst B (λ i. (number i, at.1 i)) (c.back.ensures.left c.if-not-back.false) in
@@ -220,42 +225,43 @@ pub walk-smaller : goal.walk-smaller
 walk-smaller g c =
     let problem = c.args.self.now.problem.now in
     let bounds = c.args.self.now.bounds.now in
-    let root = g.T.View.context c.args.branch.now in
-    let from = g.T.View.context c.walk.branch in
-    let to = g.T.View.context c.visit.new.branch in
+    let root = c.args.branch.now.context in
+    let from = c.walk.branch.context in
+    let to = c.visit.new.branch.context in
     let first : Heard = record { given = g.H.Hook.given c.args.hook.now; seen = g.H.Hook.seen c.args.hook.now; posted = g.H.Hook.posted c.args.hook.now } in
     let h : Heard = record { given = g.H.Hook.given c.walk.hook; seen = g.H.Hook.seen c.walk.hook; posted = g.H.Hook.posted c.walk.hook } in
     let now : Heard = record { given = g.H.Hook.given c.visit.new.hook; seen = g.H.Hook.seen c.visit.new.hook; posted = g.H.Hook.posted c.visit.new.hook } in
     let w = c.walk.invariant.walking in
     let v = c.visit.ensures.visited in
     let at = visited_at problem bounds from to c.walk.tally c.visit.new.tally v.0 v.1 c.visit.result visit.Leaf c.in-Leaf.is v.3 in
-    let end = g.T.View.context c.back.new.branch in
-    let turned = g.T.View.context c.turn_right.new.branch in
+    let end = c.back.new.self.context in
+    let turned = c.turn_right.new.self.context in
     let B : ℕ × Context → Type 0 = λ z. IsBackAtLeft z.0 z.1 end in
     let number = c.len-base.ensures.number in
     let there = subst B (λ i. (number i, at.1 i)) (c.back.ensures.left c.if-not-back.false) in
-    less_turned problem bounds from end turned (length root) (grown_some c.requires.grown) w.grown there (c.in-Ok.ensures there.before there.left there.now_is)
+    less_turned problem bounds from end turned (length root) (grown_some c.requires.grown) w.grown there (c.in-Ok.ensures.turned there.before there.left there.now_is)
 
 pub walk-preserved : goal.walk-preserved
 walk-preserved g c =
     let problem = c.args.self.now.problem.now in
     let bounds = c.args.self.now.bounds.now in
-    let root = g.T.View.context c.args.branch.now in
-    let from = g.T.View.context c.walk.branch in
-    let to = g.T.View.context c.visit.new.branch in
+    let root = c.args.branch.now.context in
+    let from = c.walk.branch.context in
+    let to = c.visit.new.branch.context in
     let first : Heard = record { given = g.H.Hook.given c.args.hook.now; seen = g.H.Hook.seen c.args.hook.now; posted = g.H.Hook.posted c.args.hook.now } in
     let h : Heard = record { given = g.H.Hook.given c.walk.hook; seen = g.H.Hook.seen c.walk.hook; posted = g.H.Hook.posted c.walk.hook } in
     let now : Heard = record { given = g.H.Hook.given c.visit.new.hook; seen = g.H.Hook.seen c.visit.new.hook; posted = g.H.Hook.posted c.visit.new.hook } in
     let w = c.walk.invariant.walking in
     let v = c.visit.ensures.visited in
     let at = visited_at problem bounds from to c.walk.tally c.visit.new.tally v.0 v.1 c.visit.result visit.Leaf c.in-Leaf.is v.3 in
-    let end = g.T.View.context c.back.new.branch in
-    let turned = g.T.View.context c.turn_right.new.branch in
+    let end = c.back.new.self.context in
+    let turned = c.turn_right.new.self.context in
     let B : ℕ × Context → Type 0 = λ z. IsBackAtLeft z.0 z.1 end in
     let number = c.len-base.ensures.number in
     let there = subst B (λ i. (number i, at.1 i)) (c.back.ensures.left c.if-not-back.false) in
     record {
-      walking = walk_turns problem bounds root first c.args.tally.now from end turned h now c.walk.tally c.visit.new.tally v.0 v.1 (grown_some c.requires.grown) w v.2 at.2 at.0 there (c.in-Ok.ensures there.before there.left there.now_is);
+      of = still_of problem bounds c.back.new.self c.turn_right.new.self (still_of problem bounds c.visit.new.branch c.back.new.self c.visit.ensures.of c.back.ensures.same) c.turn_right.ensures.same;
+      walking = walk_turns problem bounds root first c.args.tally.now from end turned h now c.walk.tally c.visit.new.tally v.0 v.1 (grown_some c.requires.grown) w v.2 at.2 at.0 there (c.in-Ok.ensures.turned there.before there.left there.now_is);
       pushes = adds_then c.walk.invariant.pushes c.visit.ensures.pushes;
       condition = same_gifts c.walk.invariant.condition c.visit.ensures.condition;
     }
@@ -264,9 +270,9 @@ pub returns-in-Exhausted-clause-walked : goal.returns-in-Exhausted-clause-walked
 returns-in-Exhausted-clause-walked g c =
     let problem = c.args.self.now.problem.now in
     let bounds = c.args.self.now.bounds.now in
-    let root = g.T.View.context c.args.branch.now in
-    let from = g.T.View.context c.walk.branch in
-    let to = g.T.View.context c.visit.new.branch in
+    let root = c.args.branch.now.context in
+    let from = c.walk.branch.context in
+    let to = c.visit.new.branch.context in
     let first : Heard = record { given = g.H.Hook.given c.args.hook.now; seen = g.H.Hook.seen c.args.hook.now; posted = g.H.Hook.posted c.args.hook.now } in
     let h : Heard = record { given = g.H.Hook.given c.walk.hook; seen = g.H.Hook.seen c.walk.hook; posted = g.H.Hook.posted c.walk.hook } in
     let now : Heard = record { given = g.H.Hook.given c.visit.new.hook; seen = g.H.Hook.seen c.visit.new.hook; posted = g.H.Hook.posted c.visit.new.hook } in
@@ -279,9 +285,9 @@ pub returns-in-Cut-clause-walked : goal.returns-in-Cut-clause-walked
 returns-in-Cut-clause-walked g c =
     let problem = c.args.self.now.problem.now in
     let bounds = c.args.self.now.bounds.now in
-    let root = g.T.View.context c.args.branch.now in
-    let from = g.T.View.context c.walk.branch in
-    let to = g.T.View.context c.visit.new.branch in
+    let root = c.args.branch.now.context in
+    let from = c.walk.branch.context in
+    let to = c.visit.new.branch.context in
     let first : Heard = record { given = g.H.Hook.given c.args.hook.now; seen = g.H.Hook.seen c.args.hook.now; posted = g.H.Hook.posted c.args.hook.now } in
     let h : Heard = record { given = g.H.Hook.given c.walk.hook; seen = g.H.Hook.seen c.walk.hook; posted = g.H.Hook.posted c.walk.hook } in
     let now : Heard = record { given = g.H.Hook.given c.visit.new.hook; seen = g.H.Hook.seen c.visit.new.hook; posted = g.H.Hook.posted c.visit.new.hook } in
@@ -295,9 +301,9 @@ pub returns-in-Lost-clause-walked : goal.returns-in-Lost-clause-walked
 returns-in-Lost-clause-walked g c =
     let problem = c.args.self.now.problem.now in
     let bounds = c.args.self.now.bounds.now in
-    let root = g.T.View.context c.args.branch.now in
-    let from = g.T.View.context c.walk.branch in
-    let to = g.T.View.context c.visit.new.branch in
+    let root = c.args.branch.now.context in
+    let from = c.walk.branch.context in
+    let to = c.visit.new.branch.context in
     let first : Heard = record { given = g.H.Hook.given c.args.hook.now; seen = g.H.Hook.seen c.args.hook.now; posted = g.H.Hook.posted c.args.hook.now } in
     let h : Heard = record { given = g.H.Hook.given c.walk.hook; seen = g.H.Hook.seen c.walk.hook; posted = g.H.Hook.posted c.walk.hook } in
     let now : Heard = record { given = g.H.Hook.given c.visit.new.hook; seen = g.H.Hook.seen c.visit.new.hook; posted = g.H.Hook.posted c.visit.new.hook } in
@@ -311,9 +317,9 @@ pub returns-in-Cut-clause-quiet : goal.returns-in-Cut-clause-quiet
 returns-in-Cut-clause-quiet g c = λ unheard.
     let problem = c.args.self.now.problem.now in
     let bounds = c.args.self.now.bounds.now in
-    let root = g.T.View.context c.args.branch.now in
-    let from = g.T.View.context c.walk.branch in
-    let to = g.T.View.context c.visit.new.branch in
+    let root = c.args.branch.now.context in
+    let from = c.walk.branch.context in
+    let to = c.visit.new.branch.context in
     let first : Heard = record { given = g.H.Hook.given c.args.hook.now; seen = g.H.Hook.seen c.args.hook.now; posted = g.H.Hook.posted c.args.hook.now } in
     let h : Heard = record { given = g.H.Hook.given c.walk.hook; seen = g.H.Hook.seen c.walk.hook; posted = g.H.Hook.posted c.walk.hook } in
     let now : Heard = record { given = g.H.Hook.given c.visit.new.hook; seen = g.H.Hook.seen c.visit.new.hook; posted = g.H.Hook.posted c.visit.new.hook } in
@@ -326,9 +332,9 @@ pub lose-requires : goal.lose-requires
 lose-requires g c =
     let problem = c.args.self.now.problem.now in
     let bounds = c.args.self.now.bounds.now in
-    let root = g.T.View.context c.args.branch.now in
-    let from = g.T.View.context c.walk.branch in
-    let to = g.T.View.context c.visit.new.branch in
+    let root = c.args.branch.now.context in
+    let from = c.walk.branch.context in
+    let to = c.visit.new.branch.context in
     let first : Heard = record { given = g.H.Hook.given c.args.hook.now; seen = g.H.Hook.seen c.args.hook.now; posted = g.H.Hook.posted c.args.hook.now } in
     let h : Heard = record { given = g.H.Hook.given c.walk.hook; seen = g.H.Hook.seen c.walk.hook; posted = g.H.Hook.posted c.walk.hook } in
     let now : Heard = record { given = g.H.Hook.given c.visit.new.hook; seen = g.H.Hook.seen c.visit.new.hook; posted = g.H.Hook.posted c.visit.new.hook } in
@@ -341,9 +347,9 @@ pub lose-requires-in-Lost : goal.lose-requires-in-Lost
 lose-requires-in-Lost g c =
     let problem = c.args.self.now.problem.now in
     let bounds = c.args.self.now.bounds.now in
-    let root = g.T.View.context c.args.branch.now in
-    let from = g.T.View.context c.walk.branch in
-    let to = g.T.View.context c.visit.new.branch in
+    let root = c.args.branch.now.context in
+    let from = c.walk.branch.context in
+    let to = c.visit.new.branch.context in
     let first : Heard = record { given = g.H.Hook.given c.args.hook.now; seen = g.H.Hook.seen c.args.hook.now; posted = g.H.Hook.posted c.args.hook.now } in
     let h : Heard = record { given = g.H.Hook.given c.walk.hook; seen = g.H.Hook.seen c.walk.hook; posted = g.H.Hook.posted c.walk.hook } in
     let now : Heard = record { given = g.H.Hook.given c.visit.new.hook; seen = g.H.Hook.seen c.visit.new.hook; posted = g.H.Hook.posted c.visit.new.hook } in
@@ -352,3 +358,12 @@ lose-requires-in-Lost g c =
     let at = visited_at problem bounds from to c.walk.tally c.visit.new.tally v.0 v.1 c.visit.result visit.Lost c.in-Lost.is v.3 in
     let L : Tally → Type 0 = λ t. TakesLoss t in
     subst L (sym at.0) (open_loses c.walk.tally.last w.is_open)
+
+pub returns-then-not-back-clause-of : goal.returns-then-not-back-clause-of
+returns-then-not-back-clause-of g c = still_of c.args.self.now.problem.now c.args.self.now.bounds.now c.visit.new.branch c.back.new.self c.visit.ensures.of c.back.ensures.same
+
+pub returns-in-Err-clause-of : goal.returns-in-Err-clause-of
+returns-in-Err-clause-of g c =
+    let problem = c.args.self.now.problem.now in
+    let bounds = c.args.self.now.bounds.now in
+    still_of problem bounds c.back.new.self c.turn_right.new.self (still_of problem bounds c.visit.new.branch c.back.new.self c.visit.ensures.of c.back.ensures.same) c.turn_right.ensures.same

@@ -1,4 +1,5 @@
 use Rattle.branch_core.specs.Hooks.{SameGifts}
+use Rattle.branch_walk.specs.Along.{IsOf}
 use Rattle.branch_walk.specs.Tallies.{AddsAtMost}
 use Rattle.branch_walk.proofs.Subtrees.{IsWalking}
 use Rattle.branch_walk.proofs.Work.{work}
@@ -6,10 +7,11 @@ use Rattle.branch_walk.proofs.turning.Search.subtree.Given as goal
 
 abbrev pub invariant-walk : goal.invariant-walk
 invariant-walk g l = record {
-  walking : IsWalking l.self.problem.now l.self.bounds.now (g.T.View.context l.initial.branch) (g.T.View.context l.branch) (record { given = g.H.Hook.given l.initial.hook; seen = g.H.Hook.seen l.initial.hook; posted = g.H.Hook.posted l.initial.hook }) (record { given = g.H.Hook.given l.hook; seen = g.H.Hook.seen l.hook; posted = g.H.Hook.posted l.hook }) l.initial.tally l.tally;
+  of : IsOf l.self.problem.now l.self.bounds.now l.branch;
+  walking : IsWalking l.self.problem.now l.self.bounds.now (l.initial.branch.context) (l.branch.context) (record { given = g.H.Hook.given l.initial.hook; seen = g.H.Hook.seen l.initial.hook; posted = g.H.Hook.posted l.initial.hook }) (record { given = g.H.Hook.given l.hook; seen = g.H.Hook.seen l.hook; posted = g.H.Hook.posted l.hook }) l.initial.tally l.tally;
   pushes : AddsAtMost 0 l.initial.tally l.tally;
   condition : SameGifts (g.H.Hook.may_give l.initial.hook) (g.H.Hook.may_give l.hook);
 }
 
 abbrev pub decreases-walk : goal.decreases-walk
-decreases-walk g l = work l.self.bounds.now.literals (g.T.View.context l.branch)
+decreases-walk g l = work l.self.bounds.now.literals (l.branch.context)

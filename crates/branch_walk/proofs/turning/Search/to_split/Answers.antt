@@ -18,9 +18,9 @@ pub down-preserved : goal.down-preserved
 down-preserved g c =
     let problem = c.args.self.now.problem.now in
     let bounds = c.args.self.now.bounds.now in
-    let context = g.T.View.context c.args.branch.now in
-    let from = g.T.View.context c.down.branch in
-    let to = g.T.View.context c.visit.new.branch in
+    let context = c.args.branch.now.context in
+    let from = c.down.branch.context in
+    let to = c.visit.new.branch.context in
     let first : Heard = record { given = g.H.Hook.given c.args.hook.now; seen = g.H.Hook.seen c.args.hook.now; posted = g.H.Hook.posted c.args.hook.now } in
     let h : Heard = record { given = g.H.Hook.given c.down.hook; seen = g.H.Hook.seen c.down.hook; posted = g.H.Hook.posted c.down.hook } in
     let now : Heard = record { given = g.H.Hook.given c.visit.new.hook; seen = g.H.Hook.seen c.visit.new.hook; posted = g.H.Hook.posted c.visit.new.hook } in
@@ -30,6 +30,7 @@ down-preserved g c =
     let w = walk_begins problem bounds from h c.down.tally d.leads.grown (subst O (sym d.same) c.requires.open) in
     let at = visited_at problem bounds from to c.down.tally c.visit.new.tally v.0 v.1 c.visit.result visit.Asserted c.in-Asserted.is v.3 in
     record {
+      of = c.visit.ensures.of;
       walking = descends problem bounds context first c.args.tally.now from to h now c.down.tally c.visit.new.tally v.0 v.1 d v.2 at;
       condition = same_gifts c.down.invariant.condition c.visit.ensures.condition;
     }
@@ -38,9 +39,9 @@ pub returns-in-Leaf-clause-ended : goal.returns-in-Leaf-clause-ended
 returns-in-Leaf-clause-ended g c =
     let problem = c.args.self.now.problem.now in
     let bounds = c.args.self.now.bounds.now in
-    let context = g.T.View.context c.args.branch.now in
-    let from = g.T.View.context c.down.branch in
-    let to = g.T.View.context c.visit.new.branch in
+    let context = c.args.branch.now.context in
+    let from = c.down.branch.context in
+    let to = c.visit.new.branch.context in
     let first : Heard = record { given = g.H.Hook.given c.args.hook.now; seen = g.H.Hook.seen c.args.hook.now; posted = g.H.Hook.posted c.args.hook.now } in
     let h : Heard = record { given = g.H.Hook.given c.down.hook; seen = g.H.Hook.seen c.down.hook; posted = g.H.Hook.posted c.down.hook } in
     let now : Heard = record { given = g.H.Hook.given c.visit.new.hook; seen = g.H.Hook.seen c.visit.new.hook; posted = g.H.Hook.posted c.visit.new.hook } in
@@ -59,9 +60,9 @@ pub returns-in-Exhausted-clause-ended : goal.returns-in-Exhausted-clause-ended
 returns-in-Exhausted-clause-ended g c =
     let problem = c.args.self.now.problem.now in
     let bounds = c.args.self.now.bounds.now in
-    let context = g.T.View.context c.args.branch.now in
-    let from = g.T.View.context c.down.branch in
-    let to = g.T.View.context c.visit.new.branch in
+    let context = c.args.branch.now.context in
+    let from = c.down.branch.context in
+    let to = c.visit.new.branch.context in
     let first : Heard = record { given = g.H.Hook.given c.args.hook.now; seen = g.H.Hook.seen c.args.hook.now; posted = g.H.Hook.posted c.args.hook.now } in
     let h : Heard = record { given = g.H.Hook.given c.down.hook; seen = g.H.Hook.seen c.down.hook; posted = g.H.Hook.posted c.down.hook } in
     let now : Heard = record { given = g.H.Hook.given c.visit.new.hook; seen = g.H.Hook.seen c.visit.new.hook; posted = g.H.Hook.posted c.visit.new.hook } in
@@ -79,9 +80,9 @@ pub returns-in-Cut-clause-ended : goal.returns-in-Cut-clause-ended
 returns-in-Cut-clause-ended g c =
     let problem = c.args.self.now.problem.now in
     let bounds = c.args.self.now.bounds.now in
-    let context = g.T.View.context c.args.branch.now in
-    let from = g.T.View.context c.down.branch in
-    let to = g.T.View.context c.visit.new.branch in
+    let context = c.args.branch.now.context in
+    let from = c.down.branch.context in
+    let to = c.visit.new.branch.context in
     let first : Heard = record { given = g.H.Hook.given c.args.hook.now; seen = g.H.Hook.seen c.args.hook.now; posted = g.H.Hook.posted c.args.hook.now } in
     let h : Heard = record { given = g.H.Hook.given c.down.hook; seen = g.H.Hook.seen c.down.hook; posted = g.H.Hook.posted c.down.hook } in
     let now : Heard = record { given = g.H.Hook.given c.visit.new.hook; seen = g.H.Hook.seen c.visit.new.hook; posted = g.H.Hook.posted c.visit.new.hook } in
@@ -100,9 +101,9 @@ pub returns-in-Lost-clause-ended : goal.returns-in-Lost-clause-ended
 returns-in-Lost-clause-ended g c =
     let problem = c.args.self.now.problem.now in
     let bounds = c.args.self.now.bounds.now in
-    let context = g.T.View.context c.args.branch.now in
-    let from = g.T.View.context c.down.branch in
-    let to = g.T.View.context c.visit.new.branch in
+    let context = c.args.branch.now.context in
+    let from = c.down.branch.context in
+    let to = c.visit.new.branch.context in
     let first : Heard = record { given = g.H.Hook.given c.args.hook.now; seen = g.H.Hook.seen c.args.hook.now; posted = g.H.Hook.posted c.args.hook.now } in
     let h : Heard = record { given = g.H.Hook.given c.down.hook; seen = g.H.Hook.seen c.down.hook; posted = g.H.Hook.posted c.down.hook } in
     let now : Heard = record { given = g.H.Hook.given c.visit.new.hook; seen = g.H.Hook.seen c.visit.new.hook; posted = g.H.Hook.posted c.visit.new.hook } in
@@ -121,9 +122,9 @@ pub lose-requires : goal.lose-requires
 lose-requires g c =
     let problem = c.args.self.now.problem.now in
     let bounds = c.args.self.now.bounds.now in
-    let context = g.T.View.context c.args.branch.now in
-    let from = g.T.View.context c.down.branch in
-    let to = g.T.View.context c.visit.new.branch in
+    let context = c.args.branch.now.context in
+    let from = c.down.branch.context in
+    let to = c.visit.new.branch.context in
     let first : Heard = record { given = g.H.Hook.given c.args.hook.now; seen = g.H.Hook.seen c.args.hook.now; posted = g.H.Hook.posted c.args.hook.now } in
     let h : Heard = record { given = g.H.Hook.given c.down.hook; seen = g.H.Hook.seen c.down.hook; posted = g.H.Hook.posted c.down.hook } in
     let now : Heard = record { given = g.H.Hook.given c.visit.new.hook; seen = g.H.Hook.seen c.visit.new.hook; posted = g.H.Hook.posted c.visit.new.hook } in

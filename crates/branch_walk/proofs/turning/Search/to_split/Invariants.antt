@@ -1,13 +1,15 @@
 use Rattle.std.proofs.Common.{◌-◌, length}
 use Rattle.branch_core.specs.Hooks.{SameGifts}
+use Rattle.branch_walk.specs.Along.{IsOf}
 use Rattle.branch_walk.proofs.Descents.{IsDescending}
 use Rattle.branch_walk.proofs.turning.Search.to_split.Given as goal
 
 abbrev pub invariant-down : goal.invariant-down
 invariant-down g l = record {
-  walking : IsDescending l.self.problem.now l.self.bounds.now (g.T.View.context l.initial.branch) (g.T.View.context l.branch) (record { given = g.H.Hook.given l.initial.hook; seen = g.H.Hook.seen l.initial.hook; posted = g.H.Hook.posted l.initial.hook }) (record { given = g.H.Hook.given l.hook; seen = g.H.Hook.seen l.hook; posted = g.H.Hook.posted l.hook }) l.initial.tally l.tally;
+  of : IsOf l.self.problem.now l.self.bounds.now l.branch;
+  walking : IsDescending l.self.problem.now l.self.bounds.now (l.initial.branch.context) (l.branch.context) (record { given = g.H.Hook.given l.initial.hook; seen = g.H.Hook.seen l.initial.hook; posted = g.H.Hook.posted l.initial.hook }) (record { given = g.H.Hook.given l.hook; seen = g.H.Hook.seen l.hook; posted = g.H.Hook.posted l.hook }) l.initial.tally l.tally;
   condition : SameGifts (g.H.Hook.may_give l.initial.hook) (g.H.Hook.may_give l.hook);
 }
 
 abbrev pub decreases-down : goal.decreases-down
-decreases-down g l = l.self.bounds.now.literals - length (g.T.View.context l.branch)
+decreases-down g l = l.self.bounds.now.literals - length (l.branch.context)
