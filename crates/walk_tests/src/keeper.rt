@@ -3,8 +3,6 @@ ghost use Rattle.std.specs.Prelude.{option_to_list};
 
 use crate::notes::Notes;
 use branch_core::{Give, Hook, Path};
-use branch_walk::Job;
-use me_context::Context;
 use std::mem;
 
 /// What becomes of gifts.
@@ -42,7 +40,7 @@ impl Keeper {
     }
 }
 
-impl Hook<Job<Context>> for Keeper {
+impl<J: Drop> Hook<J> for Keeper {
     ghost given = { λ k. option_to_list k.gift };
 
     ghost seen = { λ k. k.told.keys };
@@ -51,7 +49,7 @@ impl Hook<Job<Context>> for Keeper {
 
     ghost may_give = { λ _ _ _. Unit {0} };
 
-    fn give(&mut self, path: Path, work: Job<Context>) -> Give<Job<Context>> {
+    fn give(&mut self, path: Path, work: J) -> Give<J> {
         match self.gifts {
             Gifts::Taken => {
                 if self.gift.is_some() {

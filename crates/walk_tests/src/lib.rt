@@ -10,4 +10,10 @@ mod notes;
 #[cfg(test)]
 mod problems;
 #[cfg(test)]
+mod record_text;
+#[cfg(test)]
+mod rows;
+#[cfg(test)]
 mod walk_tests;
+#[cfg(test)]
+mod walking;
