@@ -17,10 +17,12 @@ doubling N  X1 = f(X0,X0), X2 = f(X1,X1) and so on, N equations in the same bind
 tuples L N  the tuples of p1(X) | .. | pL(X) that have a unifier with the context of ~v and N entries, which are
             ~p1(c1), .., ~pL(c1), ~p1(c2), .. The places that have an entry other than ~v have it of one constant, so
             there are about (2^L - 1) * N / L tuples, and each position is tried after each prefix that unifies.
+copy F N    copies of the context of ~v and N such entries for six literals, each let go before the next is made. It
+            is a context that owns its entries, or a branch over a table. The memory is that of a copy that is kept,
+            from the greatest memory of two calls, which keep copies of a million entries and of two million.
 """
 import math
 import os
-import resource
 import subprocess
 import sys
 import time
@@ -30,16 +32,29 @@ PROGRAM = os.path.join(TOP, "crates", "darwin_bench", "out", "darwin_bench")
 ENOUGH = 0.2
 
 
-def spent():
-    usage = resource.getrusage(resource.RUSAGE_CHILDREN)
-    return usage.ru_utime + usage.ru_stime
+def call(work, shape, size, times):
+    """What a call prints, and what it used."""
+    words = [PROGRAM, work, str(shape), str(size), str(times)]
+    with subprocess.Popen(words, stdout=subprocess.PIPE) as program:
+        printed = program.stdout.read()
+        _, status, usage = os.wait4(program.pid, 0)
+        program.returncode = os.waitstatus_to_exitcode(status)
+    if program.returncode != 0:
+        raise subprocess.CalledProcessError(program.returncode, words)
+    return int(printed), usage
 
 
 def run(work, shape, size, times):
-    words = [PROGRAM, work, str(shape), str(size), str(times)]
-    begun = spent()
-    ended = subprocess.run(words, stdout=subprocess.PIPE, check=True)
-    return int(ended.stdout), spent() - begun
+    count, usage = call(work, shape, size, times)
+    return count, usage.ru_utime + usage.ru_stime
+
+
+def memory(form, entries):
+    """The bytes of a copy that is kept."""
+    times = 1_000_000 // entries
+    _, fewer = call("keep", form, entries, times)
+    _, more = call("keep", form, entries, 2 * times)
+    return (more.ru_maxrss - fewer.ru_maxrss) * 1024 / times
 
 
 def best(work, shape, size, times, calls=5):
@@ -73,7 +88,7 @@ def pairs():
     yield "match", "doubling", 100
 
 
-NAMES = {"unify": "unifications", "match": "matches", "tuples": "unifiers"}
+NAMES = {"unify": "unifications", "match": "matches", "tuples": "unifiers", "copy": "entries"}
 
 
 def report(work, shape, size, count, seconds, more=""):
@@ -96,6 +111,11 @@ def lines():
             count, seconds = measure("tuples", literals, entries)
             assert count == expected(literals, entries)
             yield "tuples", literals, entries, count, seconds, ""
+    for form in ["context", "branch"]:
+        for entries in [10, 100, 1000]:
+            count, seconds = measure("copy", form, entries)
+            assert count == entries + 1
+            yield "copy", form, entries, count, seconds, f"{memory(form, entries):.0f} bytes a copy"
 
 
 def main():

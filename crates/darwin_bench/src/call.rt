@@ -2,6 +2,7 @@
 //!
 //! Words are read by `call_of`, which answers `None` where they are not of the form that `main` tells.
 use crate::atoms::Shape;
+use crate::copies::{Form, Life};
 
 /// The operations that are done.
 #[derive(Clone, Copy)]
@@ -12,6 +13,8 @@ pub(crate) enum Work {
     Match(Shape),
     /// The tuples are enumerated of a clause of so many literals.
     Tuples(u32),
+    /// A context of this form is copied.
+    Copy(Form, Life),
 }
 
 /// A call of the program.
@@ -35,11 +38,21 @@ fn shape_of(word: &str) -> Option<Shape> {
     }
 }
 
+fn form_of(word: &str) -> Option<Form> {
+    match word {
+        "context" => Some(Form::Owned),
+        "branch" => Some(Form::Lent),
+        _ => None,
+    }
+}
+
 fn work_of(work: &str, shape: &str) -> Option<Work> {
     match work {
         "unify" => Some(Work::Unify(shape_of(shape)?)),
         "match" => Some(Work::Match(shape_of(shape)?)),
         "tuples" => Some(Work::Tuples(number(shape)?)),
+        "copy" => Some(Work::Copy(form_of(shape)?, Life::Short)),
+        "keep" => Some(Work::Copy(form_of(shape)?, Life::Long)),
         _ => None,
     }
 }

@@ -5,6 +5,8 @@
 
 mod atoms;
 mod call;
+mod copies;
+mod denials;
 mod enumeration;
 mod pairs;
 
@@ -12,6 +14,7 @@ use crate::call::{Call, Work, call_of};
 use anyhow::{Result, bail};
 use std::alloc::Global;
 use std::env;
+use std::sync::Wait;
 
 /// The words of the call, the program's name first.
 fn words_of(rt: &HostRuntime) -> Result<Vec<String>> {
@@ -23,11 +26,12 @@ fn words_of(rt: &HostRuntime) -> Result<Vec<String>> {
 }
 
 /// How many operations succeeded.
-fn count_of(alloc: Global, call: &Call) -> Result<u64> {
+fn count_of<R: Wait>(rt: &R, alloc: Global, call: &Call) -> Result<u64> {
     match call.work {
         Work::Unify(shape) => pairs::unifications(alloc, shape, call.size, call.times),
         Work::Match(shape) => pairs::instances(alloc, shape, call.size, call.times),
         Work::Tuples(literals) => { enumeration::tuples(alloc, literals, call.size, call.times) }
+        Work::Copy(form, life) => { copies::copies(rt, alloc, form, life, call.size, call.times) }
     }
 }
 
@@ -35,10 +39,10 @@ fn main(rt: HostRuntime) -> Result<()> {
     let words = words_of(&rt)?;
     let Some(call) = call_of(words.as_slice()) else {
         bail!(
-            "usage: darwin_bench unify|match flat|deep|doubling SIZE TIMES, or darwin_bench tuples 2|3|4|5|6 ENTRIES TIMES"
+            "usage: darwin_bench unify|match flat|deep|doubling SIZE TIMES, or tuples 2|3|4|5|6 ENTRIES TIMES, or copy|keep context|branch ENTRIES TIMES"
         );
     };
-    let count = count_of(rt.alloc(), &call)?;
+    let count = count_of(&rt, rt.alloc(), &call)?;
     println!(rt; "{count}")?;
     Ok(())
 }
