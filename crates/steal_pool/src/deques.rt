@@ -2,7 +2,7 @@
 //!
 //! They are deques after Chase and Lev, over which the owner pushes and pops at one end, and thieves steal at
 //! the other. A work whose push is refused for want of memory stays with its worker.
-ghost use Rattle.std.specs.Prelude.{◌≡◌, ◌<◌, ◌≤◌, ◌+◌, List, [], ◌++◌, length, IfOk, IfSome, OnOk};
+ghost use Rattle.std.specs.Prelude.{◌≡◌, ◌<◌, ◌≤◌, ◌+◌, ◌⊎◌, List, [], ◌∷◌, ◌++◌, length, IfOk, IfSome, OnOk};
 ghost use Rattle.crossbeam_deque.specs.Tasks.{Admits};
 ghost use Rattle.crossbeam_deque.specs.Handles.{IsPassOf, stealer_deque, worker_capacity, worker_index};
 ghost use Rattle.steal_pool.specs.Tasks.{IsTask, AreTasks};
@@ -84,6 +84,7 @@ impl<W: Drop, B: TaskRule<W>> Slot<W, B> {
     /// The slot's deque with the work in it.
     fn filled(self, work: W) -> Own<W, B>
         requires task { IsTask B.is_task work }
+        ensures { 0 < worker_index result }
     {
         let Slot { mut deque } = self;
         match deque.push_as::<OnlyTasks<B>>(work) {
@@ -110,6 +111,7 @@ impl<W: Drop, B: TaskRule<W>> Deques<W, B> {
     pub(crate) fn put(&mut self, slot: Slot<W, B>, work: W)
         requires task { IsTask B.is_task work }
         requires place { length self.old.kept.items < self.old.kept.cap }
+        ensures lies { (worker_index self.new.own ≡ worker_index self.old.own + 1) ⊎ ((deque : _) × (self.new.kept.items ≡ self.old.kept.items ++ deque ∷ []) × (0 < worker_index deque)) }
     {
         match self.own.push_as::<OnlyTasks<B>>(work) {
             Ok(()) => self.spare = Some(slot),
