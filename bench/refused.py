@@ -138,6 +138,8 @@ def main():
             with open(f"{stem}.p", "rb") as it:
                 calls.append((name, words, it.read()))
         if arguments.names is EXAMPLES:
+            deep = [os.path.join(TOP, "bench", "deep.py"), "--nesting", "100", "4"]
+            calls.append(("deep terms", [], subprocess.run(deep, stdout=subprocess.PIPE, check=True).stdout))
             calls.append(("a made problem", ["--make", "7", "--literals", "12"], b""))
             calls.append(("refused words", ["--depth", "65"], b""))
         for name, words, given in calls:

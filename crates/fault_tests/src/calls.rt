@@ -6,31 +6,23 @@ use std::sync::Wait;
 use std::thread::Threads;
 use steal_pool::NoGate;
 
-/// What is read and how: the words after the program's name, the bytes, the greatest number of bytes that one
-/// call of the source and one of the sink moves, and the call of each that fails, or 0.
+/// How many bytes one call of the source gives at most.
+const READ_PIECE: u64 = 8;
+
+/// How many bytes one call of the sink takes at most.
+const WRITTEN_PIECE: u64 = 16;
+
+/// The words after the program's name, what is read, and the numbers of the calls of the source and of the sink
+/// that fail, or 0.
 #[derive(Drop)]
 pub(crate) struct Call<'a> {
     pub(crate) words: &'a [&'a str],
     pub(crate) file: &'a [u8],
-    pub(crate) read_piece: u64,
     pub(crate) failing_read: u64,
-    pub(crate) written_piece: u64,
     pub(crate) failing_write: u64,
 }
 
-impl<'a> Call<'a> {
-    /// A call over devices that do not fail.
-    pub(crate) fn of(words: &'a [&'a str], file: &'a [u8]) -> Self {
-        Call {
-            words,
-            file,
-            read_piece: 1_000,
-            failing_read: 0,
-            written_piece: 16,
-            failing_write: 0,
-        }
-    }
-
+impl Call<'_> {
     /// The status and what was written. Only what the test itself needs beside the call is asked for by `?`.
     pub(crate) fn made<R: Threads + Wait + Sync>(
         &self,
@@ -43,8 +35,8 @@ impl<'a> Call<'a> {
             words.push(String::from_str(alloc, word)?)?;
         }
         let file = self.file.to_vec(alloc)?;
-        let mut source = MemSource::new(file, self.read_piece, only(alloc, self.failing_read)?);
-        let mut sink = MemSink::new(alloc, self.written_piece, only(alloc, self.failing_write)?);
+        let mut source = MemSource::new(file, READ_PIECE, only(alloc, self.failing_read)?);
+        let mut sink = MemSink::new(alloc, WRITTEN_PIECE, only(alloc, self.failing_write)?);
         let status = run(rt, alloc, &words, &mut source, &mut sink, &NoGate);
         Ok((status, sink))
     }

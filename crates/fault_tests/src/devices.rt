@@ -51,10 +51,10 @@ fn a_device_that_fails_gives_its_status(rt: HostRuntime) -> Result<(), Fail> {
     let alloc = rt.alloc();
     for (words, failing_read, failing_write, status, text, length) in &ROWS {
         let call = Call {
-            read_piece: 8,
+            words,
+            file: CONTRADICTION,
             failing_read: *failing_read,
             failing_write: *failing_write,
-            ..Call::of(words, CONTRADICTION)
         };
         let (found, sink) = call.made(&rt, alloc)?;
         assert_eq!(rt;
