@@ -254,8 +254,8 @@ def memory_ends(program, pool, words):
         (["--list", "50000000"], made_by("deep.py", "16")),
         ([], made_by("families.py", "pigeons", "5")),
         ([], made_by("families.py", "closures", "12")),
-        ([], SMALL * 10000),
-        ([], SMALL * 10000 + b"x"),
+        ([], SMALL * 1000),
+        ([], SMALL * 1000 + b"x"),
     ]
     cases = []
     for more, given in calls:
