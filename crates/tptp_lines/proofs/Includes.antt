@@ -82,7 +82,7 @@ name_more l ts p h = by h.0 h.1 h.2
       c,
       cs ++ l ∷ [],
       push (label_terminal l) e
-      ∙ ap (λ (x : List Terminal). selecting p.file (OpenSquare ∷ label_terminal c ∷ x)) (append_assoc (commaed cs) (Comma ∷ []) (label_terminal l ∷ []) ∙ commaed-push cs l),
+          ∙ ap (λ (x : List Terminal). selecting p.file (OpenSquare ∷ label_terminal c ∷ x)) (append_assoc (commaed cs) (Comma ∷ []) (label_terminal l ∷ []) ∙ commaed-push cs l),
       ap (λ (x : List LabelValue). x ++ label_of l ∷ []) k ∙ ap (λ (x : List LabelValue). label_of c ∷ x) (map-push cs l),
     )
 
@@ -311,9 +311,9 @@ unfinished stage.Picking ts p h = by h.0 h.1
           next = label_terminal some_name;
           others = end;
           front = ap (λ (x : List Terminal). named p.file ++ x) (selection_row s
-          ∙ ap (λ (x : List Terminal). Comma ∷ OpenSquare ∷ label_terminal c ∷ x)
+              ∙ ap (λ (x : List Terminal). Comma ∷ OpenSquare ∷ label_terminal c ∷ x)
               (ap (λ (x : List Terminal). x ++ end) (sym (commaed-push cs some_name)) ∙ append_assoc (commaed cs) (Comma ∷ label_terminal some_name ∷ []) end ∙ sym (append_assoc (commaed cs) (Comma ∷ []) (label_terminal some_name ∷ end))))
-          ∙ at_front ts (selecting p.file (OpenSquare ∷ picking (c ∷ cs))) (label_terminal some_name) end e;
+              ∙ at_front ts (selecting p.file (OpenSquare ∷ picking (c ∷ cs))) (label_terminal some_name) end e;
         }
 unfinished stage.Picked ts p h =
     let s : Selection = record { first = h.0; others = h.1 } in

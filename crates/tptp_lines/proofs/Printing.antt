@@ -68,10 +68,10 @@ formula_then-append f rest more =
     let tail : List Printed = times_then f.brackets (plain_token CloseRound) (noted_then f.notes (line_then rest)) in
     let body : List Printed = literal_then f.first (barred_then f.others tail) in
     put _ (put _ (put _ (put _ (put _ (put _ (
-        ap (λ (x : List Printed). times_then f.brackets (plain_token OpenRound) (literal_then f.first (barred_then f.others x))) (tail-append f.brackets f.notes rest more)
-        ∙ ap (λ (x : List Printed). times_then f.brackets (plain_token OpenRound) (literal_then f.first x)) (barred_then-append f.others tail more)
-        ∙ ap (times_then f.brackets (plain_token OpenRound)) (signed_then-append f.first.sign f.first.atom (barred_then f.others tail) more)
-        ∙ times_then-append f.brackets (plain_token OpenRound) body more
+    ap (λ (x : List Printed). times_then f.brackets (plain_token OpenRound) (literal_then f.first (barred_then f.others x))) (tail-append f.brackets f.notes rest more)
+    ∙ ap (λ (x : List Printed). times_then f.brackets (plain_token OpenRound) (literal_then f.first x)) (barred_then-append f.others tail more)
+    ∙ ap (times_then f.brackets (plain_token OpenRound)) (signed_then-append f.first.sign f.first.atom (barred_then f.others tail) more)
+    ∙ times_then-append f.brackets (plain_token OpenRound) body more
     ))))))
 
 pub printed-append : (fs gs : List WrittenFormula) → printed (fs ++ gs) ≡ printed fs ++ printed gs

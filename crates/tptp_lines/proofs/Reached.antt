@@ -379,6 +379,7 @@ module _ (bytes : List ℕ) (left next : Remainder) (p : Progress) (token : Plac
     where
       cc_begun : Begun ≡ Between → ⊥
       cc_begun k = cc
+
       not_between : (s : State) → (s ≡ Between → ⊥) → p.reading.state ≡ s → p.reading.state ≡ Between → ⊥
       not_between s n x y = n (sym x ∙ y)
   formula_on (a ∷ b ∷ []) q h e run s k f =
@@ -390,6 +391,7 @@ module _ (bytes : List ℕ) (left next : Remainder) (p : Progress) (token : Plac
     where
       late_now : p.reading.state ≡ Between → ⊥
       late_now m = subst IsLate m k.0
+
       by : (p.reading.state ≡ Closed) ⊎ (p.reading.state ≡ Closed → ⊥) → ReadSoFar bytes next q
       by (inl m) = subst (ReadSoFar bytes next) (sym (at_state q m f)) (ends a b c tokens (fed_as part.End) h e run late_now (closes t u.state (from_state m)) k.1 k.2 refl s refl)
       by (inr m) =

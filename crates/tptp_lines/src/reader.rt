@@ -86,10 +86,8 @@ fn include_step(stage: Stage, token: &Token<'_>) -> Option<Stage>
         (Stage::Opened, TokenKind::SingleQuoted) => Some(Stage::Named),
         (Stage::Named, TokenKind::Comma) => Some(Stage::Selecting),
         (Stage::Selecting, TokenKind::OpenSquare) => Some(Stage::Picking),
-        (
-            Stage::Picking,
-            TokenKind::LowerWord | TokenKind::SingleQuoted | TokenKind::Digits,
-        ) => Some(Stage::Picked),
+        (Stage::Picking, TokenKind::LowerWord | TokenKind::SingleQuoted | TokenKind::Digits) =>
+            Some(Stage::Picked),
         (Stage::Picked, TokenKind::Comma) => Some(Stage::Picking),
         (Stage::Picked, TokenKind::CloseSquare) => Some(Stage::Selected),
         (Stage::Named | Stage::Selected, TokenKind::CloseRound) => Some(Stage::Closed),
