@@ -1,9 +1,10 @@
 #!/usr/bin/env python3
 """Refuses each allocation of the built program in turn, and looks at how each run ends.
 
-usage: bench/refused.py [--most N] [--jobs N] [--program FILE] [NAME..]
+usage: bench/refused.py [--most N] [--jobs N] [--workers N,..] [--program FILE] [NAME..]
 
-NAME is a file of problems/ (those below EXAMPLES unless some are named), run with its words, and with one and two workers.
+NAME is a file of problems/ (those below EXAMPLES unless some are named), run with its words, and with 1, 2, 4
+and 8 workers or those that --workers names.
 In run N of a call the N-th allocation is refused, and in another one that and all later ones. A run has to end by status
 7 with the text of a want of memory, or by the status and text that the call has with ample memory, and none by a signal
 or not at all. The call has been gone over once no allocation was refused any more; with --most N every K-th
@@ -118,6 +119,7 @@ def main():
     parser = argparse.ArgumentParser(description=__doc__.split("\n")[0])
     parser.add_argument("--most", type=int, default=2500)
     parser.add_argument("--jobs", type=int, default=os.cpu_count())
+    parser.add_argument("--workers", default="1,2,4,8")
     parser.add_argument("--program", default=os.path.join(TOP, "crates", "darwin", "out", "darwin"))
     parser.add_argument("names", nargs="*", default=EXAMPLES)
     arguments = parser.parse_args()
@@ -143,7 +145,8 @@ def main():
             calls.append(("a made problem", ["--make", "7", "--literals", "12"], b""))
             calls.append(("refused words", ["--depth", "65"], b""))
         for name, words, given in calls:
-            for workers in ([], ["--workers", "2"]):
+            for count in arguments.workers.split(","):
+                workers = [] if count == "1" else ["--workers", count]
                 title = " ".join([name, *workers])
                 wrong += tried(pool, program, library, title, words + workers, given, arguments.most)
     print(f"{wrong} runs ended wrongly" if wrong else "nothing was wrong")
