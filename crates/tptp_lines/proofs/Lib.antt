@@ -1,4 +1,0 @@
-pub mod States
-pub mod Includes
-pub mod Printing
-pub mod Reached
