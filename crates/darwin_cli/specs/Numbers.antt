@@ -35,7 +35,7 @@ pub record AreDefaults : Type 0 where
   pub entries : DEFAULT_ENTRIES ≡ 2000
   pub list : DEFAULT_LIST ≡ 10000000
   pub workers : DEFAULT_WORKERS ≡ 1
-  pub share : DEFAULT_SHARE ≡ 10
+  pub share : DEFAULT_SHARE ≡ 6
 
 -- The size of a made problem.
 pub record IsMadeSize : Type 0 where

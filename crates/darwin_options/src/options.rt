@@ -24,7 +24,7 @@ pub const DEFAULT_WORKERS: u32 = 1;
 pub const MAX_SHARE: u32 = 16;
 
 /// The number of turns below which right children are given away, where none is given.
-pub const DEFAULT_SHARE: u32 = 10;
+pub const DEFAULT_SHARE: u32 = 6;
 
 /// The greatest seed of a made problem.
 pub const MAX_SEED: u64 = 1_000_000_000;
