@@ -1,7 +1,9 @@
 -- An order of the nodes, where links are added behind a mark.
-use Rattle.std.proofs.Common.{◌≡◌, ℕ, ◌+◌, ◌<◌, ◌≤◌, ◌≢◌, Bool, true, false, ltb, if◌then◌else◌, List, length, get_or, slice_get, Some, Vec, Global, ap, sym, subst, ◌∙◌, arith, inl, inr}
+use Rattle.std.proofs.Common.{◌≡◌, ℕ, ◌+◌, ◌<◌, ◌≤◌, ◌≢◌, Bool, ltb, if◌then◌else◌, List, length, get_or, refl, ap, sym, subst, ◌∙◌, arith, inl, inr}
 use Rattle.std.proofs.lemmas.Bool.{cases_eq, cases_lt, lt-ltb, le-ltb}
-use Rattle.std.proofs.lemmas.Option.{slice_get_within}
+use Rattle.me_terms.specs.Terms.{AtomValue}
+use Rattle.me_terms.specs.Terms as tree
+use Rattle.me_terms.specs.Substitutions.{Substitution, apply_atom}
 use Rattle.me_unify.specs.declared.links.Links.{Links}
 use Rattle.me_unify.specs.declared.node.Node.{Node}
 use Rattle.me_unify.specs.declared.node.Node.TheVariants.{App}
@@ -9,9 +11,11 @@ use Rattle.me_unify.specs.Linked.{NONE, IsForest, AreNodes, AreClosed, IsLonger,
 use Rattle.me_unify.specs.Nodes.{IsArena, KeepsNodes}
 use Rattle.me_unify.specs.Ordered.{IsOrdered, HasOrder, HasOrderBefore, colour}
 use Rattle.me_unify.specs.Walked.{AreOpen}
-use Rattle.me_unify.specs.Marks.{IsSolved}
+use Rattle.me_unify.specs.Equations.{equation}
+use Rattle.me_unify.specs.Marks.{IsSolved, IsPosed}
 use Rattle.me_unify.proofs.Forest.{respects_less}
 use Rattle.me_unify.proofs.MoreNodes.{same_links}
+use Rattle.me_unify.proofs.Posed.{IsAtom}
 use Rattle.me_unify.proofs.Ranked.{ordered_by}
 use Rattle.me_unify.proofs.Walking.{all_done}
 use Rattle.me_unify.proofs.Written.{colour_fits, extended}
@@ -66,6 +70,20 @@ pub order_grown : (nodes : List Node) (l : Links) (new : List Node) (m : Links) 
 order_grown nodes l new m a s b g fs ts =
     let kept : Respects l (colour new s.0) = extended nodes new l s.0 s.1.0 a b.fit g s.1.1.0 s.1.1.1 in
     ordered_by new m b s.0 (colour new s.0) (colour_fits new s.0 b.fit) (respects_less m l (colour new s.0) (same_links m l (sym fs) (sym ts)) kept)
+
+-- ---- an equation of atoms that are one
+pub posed_once : (nodes : List Node) (l : Links) (new : List Node) (m : Links) (ls : ℕ) (left : AtomValue) (rs : ℕ) (right : AtomValue) (x : ℕ) → IsArena nodes l → IsSolved nodes l → IsArena new m → KeepsNodes nodes new → m.froms.items ≡ l.froms.items → m.tos.items ≡ l.tos.items
+    → x < length new → IsAtom new x ls left → ((s r : Substitution) → apply_atom s left ≡ apply_atom r right) → IsPosed nodes l new m (equation ls left rs right) (record { left = x; right = x })
+posed_once nodes l new m ls left rs right x a s b g fs ts within made one = record {
+  grown = g;
+  more = same_links l m fs ts;
+  order = order_grown nodes l new m a s b g fs ts;
+  left_within = within;
+  right_within = within;
+  left = made;
+  right = λ t h f. made t h f ∙ ap (λ (z : AtomValue). tree.App z.pred z.args) (one (t ls) (t rs));
+  same = λ t h f. (λ p. respects_less m l h (same_links m l (sym fs) (sym ts)) p.0, λ r. (respects_less l m h (same_links l m fs ts) r, refl));
+}
 
 -- ---- a walk from the links behind the mark
 -- the place of a node that was come to, and behind them the others by their ranks

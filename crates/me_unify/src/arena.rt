@@ -16,6 +16,7 @@ use crate::links::Links;
 use crate::measure::{Measure, measure_all};
 use crate::node::Node;
 use crate::node_list::NodeList;
+use crate::same::are_same;
 use crate::step::Sides;
 use me_terms::{Atom, Term, Terms};
 use std::alloc::{AllocError, Global};
@@ -175,9 +176,8 @@ impl Arena {
         self.push(Node::App { f: atom.pred, args })
     }
 
-    /// The two atoms become equal, each with the variables of its space, and their nodes are the answer.
-    /// None where nothing makes them equal. It may leave nodes behind where it gives none.
-    pub(crate) fn try_pose(
+    /// The same as `try_pose`, by a node for each atom.
+    fn pose_both(
         &mut self,
         alloc: Global,
         ls: u32,
@@ -201,6 +201,31 @@ impl Arena {
         } else {
             Ok(None)
         }
+    }
+
+    /// The two atoms become equal, each with the variables of its space, and their nodes are the answer.
+    /// None where nothing makes them equal. It may leave nodes behind where it gives none.
+    pub(crate) fn try_pose(
+        &mut self,
+        alloc: Global,
+        ls: u32,
+        left: &Atom,
+        rs: u32,
+        right: &Atom,
+    ) -> Result<Option<Sides>, AllocError>
+        requires arena { IsArena self.old.nodes self.old.links }
+        requires solution { IsSolved self.old.nodes self.old.links }
+        ensures arena { IsArena self.new.nodes self.new.links }
+        ensures grown { KeepsNodes self.old.nodes self.new.nodes }
+        ensures more { IsLonger self.old.links self.new.links }
+        ensures some { IfOk result (λ answer. IfSome answer (λ sides. IsPosed self.old.nodes self.old.links self.new.nodes self.new.links (equation ls left.now rs right.now) sides)) }
+        ensures none { IfOk result (λ answer. answer ≡ None → AreApart self.old.nodes self.old.links (equation ls left.now rs right.now)) }
+    {
+        if !are_same(left, right) {
+            return self.pose_both(alloc, ls, left, rs, right);
+        }
+        let x = self.add_atom(alloc, ls, left)?;
+        Ok(Some(Sides { left: x, right: x }))
     }
 
     /// Takes away all nodes but the first `nodes` and all links but the first `links`.

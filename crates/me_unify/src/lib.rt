@@ -17,6 +17,7 @@ mod node;
 mod node_list;
 mod order;
 mod reading;
+mod same;
 mod step;
 mod variable;
 mod walk;

@@ -1,4 +1,4 @@
-use Rattle.std.proofs.Common.{rules, true, false, refl, ◌∙◌}
+use Rattle.std.proofs.Common.{rules, false, refl, ◌∙◌}
 use Rattle.me_laws.specs.Pairing.{pair}
 use Rattle.me_unify.specs.Left.{term_at}
 use Rattle.me_unify.proofs.Measures.{var_measure, constant_measure}
