@@ -14,8 +14,7 @@ use Rattle.me_terms.specs.declared.bounds.Bounds.{Bounds}
 use Rattle.me_laws.proofs.Determined.{clause_same}
 use Rattle.joint_unifiers.specs.ClauseUnifiers.{UnifierValue, IsUnifierOf}
 use Rattle.split_rule.specs.declared.choice.SplitChoice.{SplitChoice}
-use Rattle.split_rule.specs.SplitChoices.{IsByRule, FollowsRule, ArePlaces}
-use Rattle.split_rule.proofs.Rule.{remainder_places}
+use Rattle.split_rule.specs.SplitChoices.{IsByRule, FollowsRule}
 use Rattle.next_rule.specs.SplitSearches.{IsUnifying}
 use Rattle.next_rule.proofs.SplitLooks.{found_unifying}
 use Rattle.next_rule.proofs.Answers.{is_so, not_so}
@@ -26,9 +25,6 @@ use Rattle.candidate_store.proofs.Chosen.{chosen_key, found_next}
 use Rattle.candidate_store.proofs.MetKeys.{key_below}
 
 module _ (problem : ProblemValue) (context : Context) (c : ℕ) (tuple : List ℕ) (u : UnifierValue) (p : IsProductiveOf problem context c tuple u) where
-  pub unifier_places : ArePlaces u.literals u.remainder
-  unifier_places = remainder_places context p.0.literals None tuple u p.1 p.2.unifier p.3
-
   -- what no clause closes leaves a remainder
   pub some_remains : ¬ HasClose problem context → u.remainder ≡ [] → ⊥
   some_remains no_close none =

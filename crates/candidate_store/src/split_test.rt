@@ -14,7 +14,7 @@ ghost use Rattle.me_terms.specs.Next.{IsBeyond, IsNext};
 ghost use Rattle.me_terms.specs.AnswerViews.{next_value};
 ghost use Rattle.me_terms.specs.declared.atom.Literal.{Literal as LiteralOf};
 ghost use Rattle.me_unify.specs.Equations.{IsMostGeneral};
-ghost use Rattle.split_rule.specs.SplitChoices.{ArePlaces, IsChosen};
+ghost use Rattle.split_rule.specs.SplitChoices.{IsChosen};
 ghost use Rattle.next_rule.specs.SplitSearches.{IsFirstBeyond};
 ghost use Rattle.candidate_store.specs.Firsts.{FoundValue, IsBest, IsMet, AreMet, AreAllMet, MeetsMore, HaveAll, GivesStep, IsFirstOfTwo, IsFirstFound};
 ghost use Rattle.candidate_keys.specs.Keys.{unifier_code};
@@ -66,7 +66,6 @@ fn bound_beyond(unifier: &Unifier, place: u32, bounds: &Bounds) -> Bound
 
 /// The bound that the first literal of the remainder is beyond, where none of the remainder's is within.
 fn first_bound(unifier: &Unifier, bounds: &Bounds) -> Bound
-    requires places { ArePlaces unifier.now.literals unifier.now.remainder }
     requires bounds { IsLawful bounds.now }
     requires some { unifier.now.remainder ≡ [] → ⊥ }
     requires none_within { (f : Family) → IsMostGeneral unifier.now.equations f → IsChosen unifier.now.literals unifier.now.remainder bounds.now f None }
@@ -116,7 +115,6 @@ impl<'a, V: View> Search<'a, V> {
     /// remainder.
     fn step_by(&self, unifier: &Unifier, choice: Option<SplitChoice>) -> Result<Next, AllocError>
         requires bounds { IsLawful self.now.bounds.now }
-        requires places { ArePlaces unifier.now.literals unifier.now.remainder }
         requires some { unifier.now.remainder ≡ [] → ⊥ }
         requires chosen { (f : Family) → IsMostGeneral unifier.now.equations f → IsChosen unifier.now.literals unifier.now.remainder self.now.bounds.now f choice }
         requires place { IfSome choice (λ c. c.place < length unifier.now.literals) }

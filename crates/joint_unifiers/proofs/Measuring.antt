@@ -16,7 +16,7 @@ AreMeasures equations literals measures =
     (place : ℕ) (l : Literal) (m : Measure) (u : Family) → slice_get literals place ≡ Some l → slice_get measures place ≡ Some m → IsMostGeneral equations u → IsAtomMeasure (unified u l).atom m
 
 -- what is read at a place is the measure of the literal there
-pub measure_at : (es : List Equation) (ls : List Literal) (ms : List Measure) (place : ℕ) (m : Measure) → IsMeasuredUnifier es ls ms → place < length ls → m ≡ get_or ms place m
+pub measure_at : {remainder : List ℕ} (es : List Equation) (ls : List Literal) (ms : List Measure) (place : ℕ) (m : Measure) → IsMeasuredUnifier es ls ms remainder → place < length ls → m ≡ get_or ms place m
     → (u : Family) (l : Literal) → IsMostGeneral es u → slice_get ls place ≡ Some l → IsAtomMeasure (unified u l).atom m
 measure_at es ls ms place m h within is u l general at =
     let there : slice_get ms place ≡ Some m = slice_get_read ms (length ms) place m refl (omega (arith, h.measured.each_place, within)) is in

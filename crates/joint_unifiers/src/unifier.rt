@@ -10,6 +10,7 @@ ghost use Rattle.me_terms.specs.Unifier.{unified};
 ghost use Rattle.me_terms.specs.declared.atom.Literal.{Literal as LiteralOf};
 ghost use Rattle.me_unify.specs.Equations.{IsMostGeneral};
 ghost use Rattle.joint_unifiers.specs.Measured.{HasMeasures};
+ghost use Rattle.joint_unifiers.specs.Places.{ArePlaces};
 
 use me_terms::{Again, Literal, Literals, Places, Tuple};
 use me_unify::{Bindings, Measure};
@@ -39,7 +40,7 @@ impl Model for Unifier {
 
     ghost view = { λ u. record { literals = u.literals.items; tuple = u.tuple.items; equations = u.bindings; remainder = u.remainder.items } };
 
-    ghost invariant = { λ u. IsMeasuredUnifier u.bindings u.literals.items u.measures.items };
+    ghost invariant = { λ u. IsMeasuredUnifier u.bindings u.literals.items u.measures.items u.remainder.items };
 }
 
 /// What is counted of each literal, with the variables of space 0, under the bindings.
@@ -68,7 +69,8 @@ impl Unifier {
         bindings: Bindings,
         remainder: Places,
     ) -> Result<Unifier, AllocError>
-        requires { (f : Family) × IsMostGeneral bindings f }
+        requires family { (f : Family) × IsMostGeneral bindings f }
+        requires places { ArePlaces literals.now.items remainder.items }
         ensures literals { IfOk result (λ u. u.literals ≡ literals.now.items) }
         ensures tuple { IfOk result (λ u. u.tuple ≡ tuple.now.items) }
         ensures equations { IfOk result (λ u. u.equations ≡ bindings) }
@@ -95,7 +97,8 @@ impl Unifier {
 
     /// The places at which an entry is used for less than all that it stands for, rising.
     pub fn remainder(&self) -> &Places
-        ensures { result.now.items ≡ self.now.remainder }
+        ensures items { result.now.items ≡ self.now.remainder }
+        ensures places { ArePlaces self.now.literals self.now.remainder }
     {
         &self.remainder
     }

@@ -22,8 +22,9 @@ use Rattle.me_laws.proofs.Determined.{clause_same}
 use Rattle.me_laws_existence.proofs.Best.{precedes_itself}
 use Rattle.me_laws_existence.proofs.Opposed.{there}
 use Rattle.joint_unifiers.specs.ClauseUnifiers.{UnifierValue, IsUnifierOf}
-use Rattle.split_rule.specs.SplitChoices.{IsChosen, IsRuleChoice, FollowsRule, ArePlaces}
+use Rattle.split_rule.specs.SplitChoices.{IsChosen, IsRuleChoice, FollowsRule}
 use Rattle.split_rule.specs.declared.choice.SplitChoice.{SplitChoice}
+use Rattle.joint_unifiers.specs.Places.{ArePlaces}
 use Rattle.split_rule.proofs.Rule.{remainder_places}
 use Rattle.next_rule.specs.Best.{Improves}
 use Rattle.next_rule.specs.SplitSearches.{SplitAt, split_rank, IsSmaller, SplitTuple, NoneProductive, IsFirstRemainingIn, Looks, IsUnifying, IsFirstBeyond}
@@ -66,9 +67,6 @@ module _ (context : Context) (clause : ClauseValue) (tuple : List ℕ) (found : 
       let P : List ℕ → Type 0 = λ z. IsUnifierOf context clause.literals None z u in
       let Q : List ℕ → Type 0 = λ z. IsContextUnifier context clause.literals None z one.0 in
       record { of = subst P (sym of.tuple) of; family = one.0; unifier = subst Q (sym of.tuple) one.1 }
-
-  pub found_places : ArePlaces u.literals u.remainder
-  found_places = let one = found_one in remainder_places context clause.literals None tuple u one.0 one.1 found_of
 
   pub chosen_place : (bounds : Bounds) (choice : SplitChoice) → ((f : Family) → IsMostGeneral u.equations f → IsChosen u.literals u.remainder bounds f (Some choice)) → choice.place < length u.literals
   chosen_place bounds choice chosen =

@@ -11,7 +11,7 @@ ghost use Rattle.me_terms.specs.Close.{HasClose};
 ghost use Rattle.me_terms.specs.Next.{IsBeyond};
 ghost use Rattle.me_terms.specs.declared.atom.Literal.{Literal as LiteralOf};
 ghost use Rattle.me_unify.specs.Equations.{IsMostGeneral};
-ghost use Rattle.split_rule.specs.SplitChoices.{ArePlaces, IsChosen, FollowsRule};
+ghost use Rattle.split_rule.specs.SplitChoices.{IsChosen, FollowsRule};
 ghost use Rattle.next_rule.specs.FewPlaces.{HasFewPlaces};
 ghost use Rattle.next_rule.specs.SplitSearches.{SplitTuple, SplitClause, SplitClauses, Looks, IsUnifying, IsFirstBeyond, IsSplitResult};
 
@@ -40,7 +40,6 @@ fn bound_beyond(unifier: &Unifier, place: u32, bounds: &Bounds) -> Bound
 
 /// The bound that the first literal of the remainder is beyond, where none of the remainder's is within.
 fn first_bound(unifier: &Unifier, bounds: &Bounds) -> Bound
-    requires places { ArePlaces unifier.now.literals unifier.now.remainder }
     requires bounds { IsLawful bounds.now }
     requires some { unifier.now.remainder ≡ [] → ⊥ }
     requires none_within { (f : Family) → IsMostGeneral unifier.now.equations f → IsChosen unifier.now.literals unifier.now.remainder bounds.now f None }
@@ -102,7 +101,6 @@ impl<'a, V: View> Search<'a, V> {
         requires open { HasClose self.now.problem.now (V.context self.now.view.now) → ⊥ }
         requires few { length clause.now.literals < 2 ^ 32 - 1 }
         requires unifying { IsUnifying (V.context self.now.view.now) clause.now unifier.now }
-        requires places { ArePlaces unifier.now.literals unifier.now.remainder }
         requires none_within { (f : Family) → IsMostGeneral unifier.now.equations f → IsChosen unifier.now.literals unifier.now.remainder self.now.bounds.now f None }
         requires rule { FollowsRule unifier.now self.now.bounds.now None }
         ensures { IfOk result (λ new. Looks self.now.problem.now self.now.bounds.now (V.context self.now.view.now) (SplitTuple index unifier.now.tuple) state new) }

@@ -19,9 +19,11 @@ use Rattle.me_laws.proofs.Determined.{clause_same}
 use Rattle.me_laws.proofs.Lists.{EachOf, all_of, each_map}
 use Rattle.me_unify.specs.Equations.{IsMostGeneral}
 use Rattle.joint_unifiers.specs.ClauseUnifiers.{UnifierValue, IsUnifierOf}
+use Rattle.joint_unifiers.specs.Places.{ArePlaces}
+use Rattle.joint_unifiers.proofs.Remaining.{are_places}
 use Rattle.joint_unifiers.proofs.CanonicalMeasures.{canonical_weight, canonical_ground}
 use Rattle.joint_unifiers.proofs.Fitting.{canonical_fits, fits_canonical}
-use Rattle.split_rule.specs.SplitChoices.{ArePlaces, MaySplit, place_key, IsChosen, IsByRule, FollowsRule}
+use Rattle.split_rule.specs.SplitChoices.{MaySplit, place_key, IsChosen, IsByRule, FollowsRule}
 use Rattle.split_rule.specs.declared.choice.SplitChoice.{SplitChoice}
 
 -- ---- a Split of the clause and the tuple, as one of the unifier's remainder
@@ -108,24 +110,11 @@ pub follows_rule : (u : UnifierValue) (bounds : Bounds) (chosen : Option SplitCh
 follows_rule u bounds chosen h = λ problem context c tuple clause f of productive. by_rule u problem bounds context c tuple clause f chosen of productive h
 
 -- ---- what remains are places
-from_here : (test : Bool) (i n : ℕ) (later : List ℕ) → EachOf (λ place. place < (i + 1) + n) later → EachOf (λ place. place < i + suc n) (cond test (i ∷ later) later)
-from_here test i n later h =
-    let moved = each_map (λ place. place < (i + 1) + n) (λ place. place < i + suc n) (λ place lt. omega (arith, lt)) later h in
-    elim test as (λ t. EachOf (λ place. place < i + suc n) (cond t (i ∷ later) later)) [ true ↦ (omega arith, moved) | false ↦ moved ]
-
-remaining_from : (i : ℕ) (context : Context) (ks : List (Option ℕ)) (u : Family) → EachOf (λ place. place < i + length ks) (remainder_from i context ks u)
-remaining_from i context [] u = tt
-remaining_from i context (k ∷ ks) u = from_here (remains_at (entry_at context k) (u (i + 1))) i (length ks) (remainder_from (i + 1) context ks u) (remaining_from (i + 1) context ks u)
-
 -- The remainder of a context unifier has places of the clause.
 pub remainder_places : (context : Context) (literals : List Literal) (skip : Option ℕ) (tuple : List ℕ) (u : UnifierValue) (f : Family) → IsContextUnifier context literals skip tuple f → IsUnifierOf context literals skip tuple u → ArePlaces u.literals u.remainder
 remainder_places context literals skip tuple u f unifier of =
-    let places = of.remainder f unifier.unifier in
     let number : length (positions_of skip tuple) ≡ length u.literals = unifier.opposite.each_place ∙ ap length (sym of.literals) in
-    let P : ℕ → Type 0 = λ place. place < length u.literals in
-    let each : EachOf P (remainder context (positions_of skip tuple) f) = each_map (λ place. place < 0 + length (positions_of skip tuple)) P (λ place lt. omega (arith, lt, number)) (remainder context (positions_of skip tuple) f) (remaining_from 0 context (positions_of skip tuple) f) in
-    let Q : List ℕ → Type 0 = λ ps. EachOf P ps in
-    all_of P u.remainder (subst Q (sym places) each)
+    are_places context (positions_of skip tuple) f u.literals u.remainder number (of.remainder f unifier.unifier)
 
 -- The same of what a clause's unifiers are known by.
 pub places_of_unifier : (context : Context) (literals : List Literal) (skip : Option ℕ) (tuple : List ℕ) (o : Option UnifierValue) (u : UnifierValue) → o ≡ Some u → (IsSome o ↔ ((f : Family) × IsContextUnifier context literals skip tuple f)) → IfSome o (IsUnifierOf context literals skip tuple)

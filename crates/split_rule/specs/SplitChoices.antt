@@ -1,6 +1,6 @@
 -- Which literal of a unifier's remainder is split on.
 use Rattle.std.specs.Prelude.{◌≡◌, ℕ, ◌<◌, List, [], ◌∷◌, length, slice_get, Option, Some, None}
-use Rattle.std.specs.List.{All, Contains}
+use Rattle.std.specs.List.{Contains}
 use Rattle.me_terms.specs.Substitutions.{Family}
 use Rattle.me_terms.specs.Measures.{literal_weight, canonical_literal}
 use Rattle.me_terms.specs.Values.{ProblemValue, ClauseValue}
@@ -14,10 +14,6 @@ use Rattle.me_terms.specs.declared.bounds.Bounds.{Bounds}
 use Rattle.me_terms.specs.declared.atom.Literal.{Literal}
 use Rattle.joint_unifiers.specs.ClauseUnifiers.{UnifierValue, IsUnifierOf}
 use Rattle.split_rule.specs.declared.choice.SplitChoice.{SplitChoice}
-
--- Each number is a place of the list of literals.
-abbrev pub ArePlaces : List Literal → List ℕ → Type 0
-ArePlaces literals places = All (λ place. place < length literals) places
 
 -- The place is one of these, and the literal l, which stands there, is within the bounds under the unifier f.
 pub record MaySplit (literals : List Literal) (places : List ℕ) (bounds : Bounds) (f : Family) (place : ℕ) (l : Literal) : Type 0 where

@@ -8,7 +8,7 @@ ghost use Rattle.me_terms.specs.declared.atom.Literal.{Literal};
 ghost use Rattle.me_terms.specs.declared.bounds.Bounds.{Bounds as BoundsOf};
 ghost use Rattle.me_terms.specs.declared.entry.Kind.TheVariants as kind;
 ghost use Rattle.me_unify.specs.Equations.{IsMostGeneral};
-ghost use Rattle.split_rule.specs.SplitChoices.{ArePlaces, IsChosen, FollowsRule};
+ghost use Rattle.split_rule.specs.SplitChoices.{IsChosen, FollowsRule};
 
 use crate::choice::SplitChoice;
 use joint_unifiers::Unifier;
@@ -65,7 +65,6 @@ fn first_of(chosen: Option<SplitChoice>, next: Option<SplitChoice>) -> Option<Sp
 /// Where the unifier is a productive context unifier of a clause of a problem, this is the Split of the
 /// clause and the unifier's tuple that comes before all others of them, and None where they have none.
 pub fn split_of(u: &Unifier, bounds: &Bounds) -> Option<SplitChoice>
-    requires places { ArePlaces u.now.literals u.now.remainder }
     requires bounds { IsLawful bounds.now }
     ensures chosen { (f : Family) → IsMostGeneral u.now.equations f → IsChosen u.now.literals u.now.remainder bounds.now f result }
     ensures rule { FollowsRule u.now bounds.now result }

@@ -62,7 +62,7 @@ returns-clause-some g c =
     let fits = (c.fits.ensures f l family.1 read.1).0 fitting in
     let fresh : c.in_ok-is_new.field-0 ≡ true = cc (c.if-not-branch.false) in
     let empty : c.is_empty.result ≡ true = cc (c.if-not-is_empty.false) in
-    let none : u.remainder ≡ [] = sym c.remainder.ensures ∙ none_left c.remainder.result.now.items (eqb-true (length c.remainder.result.now.items) 0 (sym c.is_empty.ensures ∙ empty)) in
+    let none : u.remainder ≡ [] = sym c.remainder.ensures.items ∙ none_left c.remainder.result.now.items (eqb-true (length c.remainder.result.now.items) 0 (sym c.is_empty.ensures ∙ empty)) in
     let entry = c.new.ensures ∙ ap (λ (t : List ℕ). written c.in_ok-literal.literal c.kind_of-kind.result c.args.index c.args.place t) (c.in_ok-tuple.ensures ∙ c.tuple-tuple.ensures.positions) in
     let P : EntryValue → Type 0 = λ e. AssertsBy u bounds context c.args.index c.args.place e in
     subst P (sym entry) (asserted u bounds context c.args.index c.args.place l f c.in_ok-literal.literal c.kind_of-kind.result read.1 family.1 none fits (c.in_ok-literal.ensures f l family.1 read.1) kind (c.in_ok-is_new.ensures.0 fresh))

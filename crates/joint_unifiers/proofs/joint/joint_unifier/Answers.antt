@@ -1,4 +1,4 @@
-use Rattle.std.proofs.Common.{◌≡◌, ◌↔◌, IsSome, List, Option, ap, subst, ◌∙◌, refl}
+use Rattle.std.proofs.Common.{◌≡◌, ◌↔◌, IsSome, List, length, Option, sym, ap, subst, ◌∙◌, refl}
 use Rattle.std.specs.Prelude.{IfSome}
 use Rattle.me_terms.specs.Positions.{positions_of}
 use Rattle.me_terms.specs.Values.{ClauseValue}
@@ -7,6 +7,7 @@ use Rattle.me_unify.specs.Equations.{Equation, IsSolvable, IsMostGeneral}
 use Rattle.me_unify.specs.ClauseEquations.{clause_equations}
 use Rattle.joint_unifiers.proofs.Bridge.{general_of}
 use Rattle.joint_unifiers.proofs.ContextUnifiers.{some_unifier, some_solution, is_unifier}
+use Rattle.joint_unifiers.proofs.Remaining.{are_places}
 use Rattle.joint_unifiers.proofs.joint.joint_unifier.Goals as goal
 
 pub returns-in_default-clause-exact : goal.returns-in_default-clause-exact
@@ -20,8 +21,8 @@ returns-in_default-clause-exact g c =
       λ h. let t : IsSome c.in_ok-bindings.field-0 = exact.1 (some_solution context c.args.clause.now.literals c.args.skip c.args.tuple.now.items h) in rw c.in_default.is at t,
     )
 
-pub new-requires : goal.new-requires
-new-requires g c =
+pub new-requires-clause-family : goal.new-requires-clause-family
+new-requires-clause-family g c =
     let context = g.V.View.context c.args.view.now in
     let positions = positions_of c.args.skip c.args.tuple.now.items in
     let ls = c.as_slice.result.now in
@@ -29,6 +30,14 @@ new-requires g c =
     let given : c.in-Some.bindings ≡ es = subst (λ (o : Option (List Equation)). IfSome o (λ b. b ≡ es)) c.in-Some.is c.in_ok-bindings.ensures.equations in
     let some : IsSome c.in_ok-bindings.field-0 = rw c.in-Some.is refl in
     rw given (general_of context ls positions (c.in_ok-bindings.ensures.exact.0 some))
+
+pub new-requires-clause-places : goal.new-requires-clause-places
+new-requires-clause-places g c =
+    let context = g.V.View.context c.args.view.now in
+    let positions = positions_of c.args.skip c.args.tuple.now.items in
+    let literals : c.clause.inside.literals.items ≡ c.args.clause.now.literals = ap (λ (v : ClauseValue). v.literals) c.clause.view_is in
+    let general = new-requires-clause-family g c in
+    are_places context positions general.0 c.clause.inside.literals.items c.in_ok-remainder.remainder.items (c.requires.opposite.each_place ∙ ap length (sym literals)) (c.in_ok-remainder.ensures general.0 general.1)
 
 pub returns-clause-exact : goal.returns-clause-exact
 returns-clause-exact g c =

@@ -19,7 +19,7 @@ loop-place-preserved c = λ f general.
 pub returns-clause-chosen : goal.returns-clause-chosen
 returns-clause-chosen c = λ f general.
     let places = c.as_slice-places.result.now in
-    let all : take c.loop-place.place-index places ≡ c.args.u.now.remainder = take_all c.loop-place.place-index places (omega arith) ∙ (c.as_slice-places.ensures ∙ c.remainder.ensures) in
+    let all : take c.loop-place.place-index places ≡ c.args.u.now.remainder = take_all c.loop-place.place-index places (omega arith) ∙ (c.as_slice-places.ensures ∙ c.remainder.ensures.items) in
     let P : List ℕ → Type 0 = λ ps. IsChosen c.args.u.now.literals ps c.args.bounds.now f c.loop-place.chosen in
     subst P all (c.loop-place.invariant f general)
 

@@ -1,16 +1,6 @@
-use Rattle.candidate_store.proofs.Found.{unifier_places, some_remains, chosen_place, found_is, found_met}
+use Rattle.candidate_store.proofs.Found.{some_remains, chosen_place, found_is, found_met}
 use Rattle.kept_asserts.proofs.Ranked.{where_some, where_none}
 use Rattle.candidate_store.proofs.search.Search.found_at.Goals as goal
-
-pub split_of-choice-requires-clause-places : goal.split_of-choice-requires-clause-places
-split_of-choice-requires-clause-places g c =
-    unifier_places c.args.self.now.problem.now (g.V.View.context c.args.self.now.view.now) c.args.index c.args.tuple.now.items c.in-Some.unifier
-    (where_some c.in_ok-unifier.field-0 c.in-Some.unifier _ c.in-Some.is c.in_ok-unifier.ensures.some)
-
-pub step_by-requires-clause-places : goal.step_by-requires-clause-places
-step_by-requires-clause-places g c =
-    unifier_places c.args.self.now.problem.now (g.V.View.context c.args.self.now.view.now) c.args.index c.args.tuple.now.items c.in-Some.unifier
-    (where_some c.in_ok-unifier.field-0 c.in-Some.unifier _ c.in-Some.is c.in_ok-unifier.ensures.some)
 
 pub step_by-requires-clause-some : goal.step_by-requires-clause-some
 step_by-requires-clause-some g c =

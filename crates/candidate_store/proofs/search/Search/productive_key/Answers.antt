@@ -1,11 +1,6 @@
-use Rattle.candidate_store.proofs.Found.{unifier_places, key_of}
+use Rattle.candidate_store.proofs.Found.{key_of}
 use Rattle.kept_asserts.proofs.Ranked.{where_some, where_none}
 use Rattle.candidate_store.proofs.search.Search.productive_key.Goals as goal
-
-pub split_of-choice-requires-clause-places : goal.split_of-choice-requires-clause-places
-split_of-choice-requires-clause-places g c =
-    unifier_places c.args.self.now.problem.now (g.V.View.context c.args.self.now.view.now) c.args.index c.args.tuple.now.items c.in-Some.unifier
-    (where_some c.in_ok-unifier.field-0 c.in-Some.unifier _ c.in-Some.is c.in_ok-unifier.ensures.some)
 
 pub returns-in_default-clause-none : goal.returns-in_default-clause-none
 returns-in_default-clause-none g c = where_none c.in_ok-unifier.field-0 _ c.in_default.is c.in_ok-unifier.ensures.none

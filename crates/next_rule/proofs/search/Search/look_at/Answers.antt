@@ -1,9 +1,5 @@
-use Rattle.next_rule.proofs.SplitLooks.{found_unifying, found_places, chosen_place}
+use Rattle.next_rule.proofs.SplitLooks.{found_unifying, chosen_place}
 use Rattle.next_rule.proofs.search.Search.look_at.Goals as goal
-
-pub split_of-requires-clause-places : goal.split_of-requires-clause-places
-split_of-requires-clause-places g c =
-    found_places (g.V.View.context c.args.self.now.view.now) c.args.clause.now c.args.tuple.now.items c.in_ok-unifier.field-0 c.in-Some.unifier c.in-Some.is c.in_ok-unifier.ensures.exact c.in_ok-unifier.ensures.unifier
 
 pub with_choice-requires-clause-unifying : goal.with_choice-requires-clause-unifying
 with_choice-requires-clause-unifying g c =
@@ -16,7 +12,3 @@ with_choice-requires-clause-place g c =
 pub without_choice-requires-clause-unifying : goal.without_choice-requires-clause-unifying
 without_choice-requires-clause-unifying g c =
     found_unifying (g.V.View.context c.args.self.now.view.now) c.args.clause.now c.args.tuple.now.items c.in_ok-unifier.field-0 c.in-Some.unifier c.in-Some.is c.in_ok-unifier.ensures.exact c.in_ok-unifier.ensures.unifier
-
-pub without_choice-requires-clause-places : goal.without_choice-requires-clause-places
-without_choice-requires-clause-places g c =
-    found_places (g.V.View.context c.args.self.now.view.now) c.args.clause.now c.args.tuple.now.items c.in_ok-unifier.field-0 c.in-Some.unifier c.in-Some.is c.in_ok-unifier.ensures.exact c.in_ok-unifier.ensures.unifier

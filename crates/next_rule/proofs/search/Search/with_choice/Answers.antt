@@ -8,7 +8,7 @@ pub returns-then-not-is_improved_by : goal.returns-then-not-is_improved_by
 returns-then-not-is_improved_by g c =
     let a = c.args in
     let u = a.unifier.now in
-    let long : c.len-size.result ≡ length u.remainder = c.len-size.ensures ∙ ap length c.remainder.ensures in
+    let long : c.len-size.result ≡ length u.remainder = c.len-size.ensures ∙ ap length c.remainder.ensures.items in
     let P : ℕ → Type 0 = λ n. IsSmaller n a.choice.weight a.state.best in
     look_later a.self.now.problem.now a.self.now.bounds.now (g.V.View.context a.self.now.view.now) a.index a.clause.now u c.requires.clause_at c.requires.unifying a.choice c.requires.rule a.state
     (λ h. not_so _ _ c.is_improved_by.ensures c.if-not-is_improved_by.true (subst P (sym long) h))
@@ -24,7 +24,7 @@ returns g c =
     let a = c.args in
     let u = a.unifier.now in
     let unifying = c.requires.unifying in
-    let long : c.len-size.result ≡ length u.remainder = c.len-size.ensures ∙ ap length c.remainder.ensures in
+    let long : c.len-size.result ≡ length u.remainder = c.len-size.ensures ∙ ap length c.remainder.ensures.items in
     look_taken a.self.now.problem.now a.self.now.bounds.now (g.V.View.context a.self.now.view.now) a.index a.clause.now u c.requires.clause_at unifying a.choice c.requires.rule
     (is_so _ _ (c.in_ok-is_productive.ensures unifying.family unifying.unifier.unifier) c.if-not-branch.false) a.state c.len-size.result c.in_ok-literal.literal long c.in_ok-literal.ensures
     (is_so _ _ c.is_improved_by.ensures c.if-not-is_improved_by.false)
