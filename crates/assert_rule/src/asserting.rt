@@ -29,7 +29,7 @@ fn is_before(kind: Kind, weight: u64, best: Option<&Candidate>) -> bool
 /// before the best one so far. Nothing of it is written out where it does not, or is beyond the bounds.
 fn assert_by<V: View>(
     alloc: Global,
-    unifier: &Unifier,
+    unifier: &Unifier<'_>,
     index: u32,
     place: u32,
     view: &V,

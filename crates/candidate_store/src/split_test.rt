@@ -51,7 +51,7 @@ impl Model for Found {
 }
 
 /// The bound that the literal of that place is beyond under the unifier; depth goes before weight.
-fn bound_beyond(unifier: &Unifier, place: u32, bounds: &Bounds) -> Bound
+fn bound_beyond(unifier: &Unifier<'_>, place: u32, bounds: &Bounds) -> Bound
     requires place { place < length unifier.now.literals }
     requires bounds { IsLawful bounds.now }
     requires beyond { (f : Family) (l : LiteralOf) → IsMostGeneral unifier.now.equations f → slice_get unifier.now.literals place ≡ Some l → ¬ Fits bounds.now (unified f l) }
@@ -65,7 +65,7 @@ fn bound_beyond(unifier: &Unifier, place: u32, bounds: &Bounds) -> Bound
 }
 
 /// The bound that the first literal of the remainder is beyond, where none of the remainder's is within.
-fn first_bound(unifier: &Unifier, bounds: &Bounds) -> Bound
+fn first_bound(unifier: &Unifier<'_>, bounds: &Bounds) -> Bound
     requires bounds { IsLawful bounds.now }
     requires some { unifier.now.remainder ≡ [] → ⊥ }
     requires none_within { (f : Family) → IsMostGeneral unifier.now.equations f → IsChosen unifier.now.literals unifier.now.remainder bounds.now f None }
@@ -113,7 +113,11 @@ fn is_before(best: &Option<Found>, key: &UnifierKey) -> bool
 impl<'a, V: View> Search<'a, V> {
     /// The step that a productive unifier gives, if no other comes before it, by what is chosen of its
     /// remainder.
-    fn step_by(&self, unifier: &Unifier, choice: Option<SplitChoice>) -> Result<Next, AllocError>
+    fn step_by(
+        &self,
+        unifier: &Unifier<'_>,
+        choice: Option<SplitChoice>,
+    ) -> Result<Next, AllocError>
         requires bounds { IsLawful self.now.bounds.now }
         requires some { unifier.now.remainder ≡ [] → ⊥ }
         requires chosen { (f : Family) → IsMostGeneral unifier.now.equations f → IsChosen unifier.now.literals unifier.now.remainder self.now.bounds.now f choice }

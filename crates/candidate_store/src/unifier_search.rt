@@ -38,7 +38,7 @@ fn fit_by(size: u64, choice: Option<SplitChoice>) -> Option<Fit>
 pub(crate) fn key_by(
     alloc: Global,
     clause: u32,
-    unifier: &Unifier,
+    unifier: &Unifier<'_>,
     choice: Option<SplitChoice>,
 ) -> Result<UnifierKey, AllocError>
     ensures { IfOk result (λ key. key ≡ record { fit = fit_of (length unifier.now.remainder) choice; clause = clause; tuple = unifier.now.tuple }) }
@@ -68,7 +68,7 @@ impl<'a, V: View> Search<'a, V> {
         &self,
         index: u32,
         tuple: &Tuple,
-    ) -> Result<Option<Unifier>, AllocError>
+    ) -> Result<Option<Unifier<'a>>, AllocError>
         requires valid { IsValid self.now.problem.now }
         requires clause { index < length self.now.problem.now.clauses }
         requires opposite { (clause : ClauseValue) → ClauseAt self.now.problem.now index clause → AreOpposite (V.context self.now.view.now) clause.literals (positions_of None tuple.now.items) }

@@ -31,12 +31,12 @@ fn start<'a, V: View>(
 /// None exactly where there is none.
 ///
 /// The given tuple has one position for each literal; nothing else is asked of its positions.
-pub fn next_unifier<V: View>(
+pub fn next_unifier<'a, V: View>(
     alloc: Global,
-    clause: &Clause,
+    clause: &'a Clause,
     view: &V,
     after: Option<&Tuple>,
-) -> Result<Option<Unifier>, AllocError>
+) -> Result<Option<Unifier<'a>>, AllocError>
     requires few { length clause.now.literals < 2 ^ 32 - 1 }
     requires after { IfSome after (λ tuple. length tuple.now.items ≡ length clause.now.literals) }
     ensures some { IfOk result (λ r. IfSome r (λ u. IsNextUnifier (V.context view.now) clause.now.literals (option_map (λ tuple. tuple.now.items) after.entry) u)) }

@@ -29,7 +29,12 @@ use std::alloc::{AllocError, Global};
 const WRITTEN: u64 = 4096;
 
 /// Whether the entry at position `k` produces the complement of the literal at that place under the unifier.
-fn produces_place<V: View>(view: &V, u: &Unifier, place: u32, k: u32) -> Result<bool, AllocError>
+fn produces_place<V: View>(
+    view: &V,
+    u: &Unifier<'_>,
+    place: u32,
+    k: u32,
+) -> Result<bool, AllocError>
     requires { place < length u.now.literals }
     ensures { IfOk result (λ b. (f : Family) (l : LiteralOf) → IsMostGeneral u.now.equations f → slice_get u.now.literals place ≡ Some l → IsTrue b ↔ ((e : EntryValue) × Produces (V.context view.now) k e (complement (unified f l)))) }
 {
@@ -47,7 +52,7 @@ fn produces_unwritten<V: View>(
     alloc: Global,
     literals: &[Literal],
     view: &V,
-    u: &Unifier,
+    u: &Unifier<'_>,
     place: u32,
     k: u32,
     entry: &Entry,
@@ -74,7 +79,7 @@ fn is_productive_at<V: View>(
     alloc: Global,
     literals: &[Literal],
     view: &V,
-    u: &Unifier,
+    u: &Unifier<'_>,
     place: u32,
     k: u32,
 ) -> Result<bool, AllocError>
@@ -106,7 +111,7 @@ pub fn is_productive<V: View>(
     alloc: Global,
     clause: &Clause,
     view: &V,
-    u: &Unifier,
+    u: &Unifier<'_>,
 ) -> Result<bool, AllocError>
     requires unifier { IsUnifierOf (V.context view.now) clause.now.literals None u.now.tuple u.now }
     requires opposite { AreOpposite (V.context view.now) clause.now.literals (positions_of None u.now.tuple) }

@@ -10,7 +10,7 @@ ghost use Rattle.me_unify.specs.Equations.{IsMostGeneral};
 use crate::unifier::Unifier;
 use me_terms::Bounds;
 
-impl Unifier {
+impl<'a> Unifier<'a> {
     /// Whether the literal of that place, under the unifier, is within the bounds on depth and weight.
     pub fn fits(&self, place: u32, bounds: &Bounds) -> bool
         requires place { place < length self.now.literals }

@@ -17,13 +17,13 @@ use std::alloc::{AllocError, Global};
 /// positions of the tuple. None exactly where there is none.
 ///
 /// The tuple has one position of a visible entry of the opposite sign for each place that is not skipped.
-pub fn joint_unifier<V: View>(
+pub fn joint_unifier<'a, V: View>(
     alloc: Global,
-    clause: &Clause,
+    clause: &'a Clause,
     skip: Option<u32>,
     tuple: &Tuple,
     view: &V,
-) -> Result<Option<Unifier>, AllocError>
+) -> Result<Option<Unifier<'a>>, AllocError>
     requires skip { IsSkip skip clause.now.literals }
     requires opposite { AreOpposite (V.context view.now) clause.now.literals (positions_of skip tuple.now.items) }
     requires few { length clause.now.literals < 2 ^ 32 - 1 }

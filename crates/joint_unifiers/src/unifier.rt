@@ -12,22 +12,23 @@ ghost use Rattle.me_unify.specs.Equations.{IsMostGeneral};
 ghost use Rattle.joint_unifiers.specs.Measured.{HasMeasures};
 ghost use Rattle.joint_unifiers.specs.Places.{ArePlaces};
 
-use me_terms::{Again, Literal, Literals, Places, Tuple};
+use me_terms::{Literal, Literals, Places, Tuple};
 use me_unify::{Bindings, Measure};
 use std::alloc::{AllocError, Global};
 use std::marker::Model;
 
 /// A most general unifier of a clause's literals with the entries at positions of a context.
+/// It refers to those literals.
 #[derive(Drop)]
-pub struct Unifier {
-    pub(crate) literals: Literals,
+pub struct Unifier<'a> {
+    pub(crate) literals: &'a Literals,
     pub(crate) tuple: Tuple,
     pub(crate) bindings: Bindings,
     pub(crate) measures: Vec<Measure>,
     pub(crate) remainder: Places,
 }
 
-impl Model for Unifier {
+impl<'a> Model for Unifier<'a> {
     ghost use Rattle.std.specs.Coded.{codes};
     ghost use Rattle.me_terms.specs.Terms.{arguments_code};
     ghost use Rattle.joint_unifiers.specs.ClauseUnifiers.{UnifierValue};
@@ -38,9 +39,9 @@ impl Model for Unifier {
 
     ghost use Rattle.joint_unifiers.specs.Measured.{IsMeasuredUnifier};
 
-    ghost view = { λ u. record { literals = u.literals.items; tuple = u.tuple.items; equations = u.bindings; remainder = u.remainder.items } };
+    ghost view = { λ u. record { literals = u.literals.now.items; tuple = u.tuple.items; equations = u.bindings; remainder = u.remainder.items } };
 
-    ghost invariant = { λ u. IsMeasuredUnifier u.bindings u.literals.items u.measures.items u.remainder.items };
+    ghost invariant = { λ u. IsMeasuredUnifier u.bindings u.literals.now.items u.measures.items u.remainder.items };
 }
 
 /// What is counted of each literal, with the variables of space 0, under the bindings.
@@ -60,15 +61,15 @@ fn measures_of(
     Ok(measures)
 }
 
-impl Unifier {
+impl<'a> Unifier<'a> {
     /// The unifier of these literals and positions by these bindings, with the places that remain.
     pub(crate) fn new(
         alloc: Global,
-        literals: &Literals,
+        literals: &'a Literals,
         tuple: &Tuple,
         bindings: Bindings,
         remainder: Places,
-    ) -> Result<Unifier, AllocError>
+    ) -> Result<Unifier<'a>, AllocError>
         requires family { (f : Family) × IsMostGeneral bindings f }
         requires places { ArePlaces literals.now.items remainder.items }
         ensures literals { IfOk result (λ u. u.literals ≡ literals.now.items) }
@@ -79,7 +80,7 @@ impl Unifier {
         let mut bindings = bindings;
         let measures = measures_of(alloc, &mut bindings, literals.as_slice())?;
         Ok(Unifier {
-            literals: literals.again(alloc)?,
+            literals,
             tuple: tuple.again(alloc)?,
             bindings,
             measures,

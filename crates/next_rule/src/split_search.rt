@@ -25,7 +25,7 @@ use std::alloc::AllocError;
 use tuple_search::Cursor;
 
 /// The bound that the literal of that place is beyond under the unifier; depth goes before weight.
-fn bound_beyond(unifier: &Unifier, place: u32, bounds: &Bounds) -> Bound
+fn bound_beyond(unifier: &Unifier<'_>, place: u32, bounds: &Bounds) -> Bound
     requires place { place < length unifier.now.literals }
     requires bounds { IsLawful bounds.now }
     requires beyond { (f : Family) (l : LiteralOf) → IsMostGeneral unifier.now.equations f → slice_get unifier.now.literals place ≡ Some l → ¬ Fits bounds.now (unified f l) }
@@ -39,7 +39,7 @@ fn bound_beyond(unifier: &Unifier, place: u32, bounds: &Bounds) -> Bound
 }
 
 /// The bound that the first literal of the remainder is beyond, where none of the remainder's is within.
-fn first_bound(unifier: &Unifier, bounds: &Bounds) -> Bound
+fn first_bound(unifier: &Unifier<'_>, bounds: &Bounds) -> Bound
     requires bounds { IsLawful bounds.now }
     requires some { unifier.now.remainder ≡ [] → ⊥ }
     requires none_within { (f : Family) → IsMostGeneral unifier.now.equations f → IsChosen unifier.now.literals unifier.now.remainder bounds.now f None }
@@ -57,7 +57,7 @@ impl<'a, V: View> Search<'a, V> {
         &self,
         clause: &Clause,
         index: u32,
-        unifier: &Unifier,
+        unifier: &Unifier<'_>,
         choice: SplitChoice,
         state: SplitState,
     ) -> Result<SplitState, AllocError>
@@ -93,7 +93,7 @@ impl<'a, V: View> Search<'a, V> {
         &self,
         clause: &Clause,
         index: u32,
-        unifier: &Unifier,
+        unifier: &Unifier<'_>,
         state: SplitState,
     ) -> Result<SplitState, AllocError>
         requires clause_at { ClauseAt self.now.problem.now index clause.now }

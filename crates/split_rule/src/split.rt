@@ -26,7 +26,7 @@ fn kind_of(ground: bool) -> Kind
 }
 
 /// What is chosen of that place alone: its literal, if that is within the bounds.
-fn choice_at(u: &Unifier, bounds: &Bounds, place: u32) -> Option<SplitChoice>
+fn choice_at(u: &Unifier<'_>, bounds: &Bounds, place: u32) -> Option<SplitChoice>
     requires place { place < length u.now.literals }
     requires bounds { IsLawful bounds.now }
     ensures { (f : Family) → IsMostGeneral u.now.equations f → IsChosen u.now.literals (place ∷ []) bounds.now f result }
@@ -64,7 +64,7 @@ fn first_of(chosen: Option<SplitChoice>, next: Option<SplitChoice>) -> Option<Sp
 ///
 /// Where the unifier is a productive context unifier of a clause of a problem, this is the Split of the
 /// clause and the unifier's tuple that comes before all others of them, and None where they have none.
-pub fn split_of(u: &Unifier, bounds: &Bounds) -> Option<SplitChoice>
+pub fn split_of(u: &Unifier<'_>, bounds: &Bounds) -> Option<SplitChoice>
     requires bounds { IsLawful bounds.now }
     ensures chosen { (f : Family) → IsMostGeneral u.now.equations f → IsChosen u.now.literals u.now.remainder bounds.now f result }
     ensures rule { FollowsRule u.now bounds.now result }

@@ -11,7 +11,7 @@ use Rattle.joint_unifiers.proofs.unifier.Unifier.literal.Goals as goal
 pub returns : goal.returns
 returns c =
     let bindings = c.self.inside.bindings in
-    let literals = c.self.inside.literals.items in
+    let literals = c.self.inside.literals.now.items in
     let found : slice_get literals c.args.place ≡ Some c.in-Some.literal.now = sym c.in-Some.ensures.item in
     let P : Literal → Type 0 = λ m. (u : Family) → IsMostGeneral bindings u → m ≡ canonical_literal (apply_literal (u 0) c.in-Some.literal.now) in
     let Q : Literal → Type 0 = λ m. (f : Family) (l : Literal) → IsMostGeneral bindings f → slice_get literals c.args.place ≡ Some l → m ≡ canonical_literal (unified f l) in
