@@ -1,13 +1,12 @@
 -- What is chosen of a productive unifier's remainder is rule Split's.
-use Rattle.std.proofs.Common.{◌≡◌, ℕ, suc, ◌+◌, ◌<◌, List, [], ◌∷◌, ◌++◌, ◌⊎◌, ◌↔◌, Bool, true, false, cond, length, slice_get, Option, Some, None, IsSome, IfSome, refl, sym, subst, ap, ◌∙◌, inl, inr, arith}
+use Rattle.std.proofs.Common.{◌≡◌, ℕ, ◌<◌, List, [], ◌∷◌, ◌++◌, ◌⊎◌, ◌↔◌, Bool, cond, length, slice_get, Option, Some, None, IsSome, IfSome, refl, sym, subst, ap, ◌∙◌, inl, inr, arith}
 use Rattle.std.specs.List.{Contains}
 use Rattle.me_terms.specs.Substitutions.{Family}
 use Rattle.me_terms.specs.Measures.{literal_weight, canonical_literal}
 use Rattle.me_terms.specs.Values.{ProblemValue, ClauseValue}
 use Rattle.me_terms.specs.Context.{Context}
-use Rattle.me_terms.specs.Positions.{ClauseAt, positions_of, entry_at}
+use Rattle.me_terms.specs.Positions.{ClauseAt, positions_of}
 use Rattle.me_terms.specs.Unifier.{IsUnifier, IsContextUnifier, unified}
-use Rattle.me_terms.specs.Remainder.{remains_at, remainder_from, remainder}
 use Rattle.me_terms.specs.Productive.{IsProductiveUnifier}
 use Rattle.me_terms.specs.Fits.{Fits}
 use Rattle.me_terms.specs.Split.{IsSplit, split_kind}
@@ -16,7 +15,6 @@ use Rattle.me_terms.specs.declared.bounds.Bounds.{Bounds}
 use Rattle.me_terms.specs.declared.entry.Kind.TheVariants.{Universal, Parametric}
 use Rattle.me_terms.specs.declared.atom.Literal.{Literal}
 use Rattle.me_laws.proofs.Determined.{clause_same}
-use Rattle.me_laws.proofs.Lists.{EachOf, all_of, each_map}
 use Rattle.me_unify.specs.Equations.{IsMostGeneral}
 use Rattle.joint_unifiers.specs.ClauseUnifiers.{UnifierValue, IsUnifierOf}
 use Rattle.joint_unifiers.specs.Places.{ArePlaces}

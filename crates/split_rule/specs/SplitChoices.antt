@@ -1,5 +1,5 @@
 -- Which literal of a unifier's remainder is split on.
-use Rattle.std.specs.Prelude.{◌≡◌, ℕ, ◌<◌, List, [], ◌∷◌, length, slice_get, Option, Some, None}
+use Rattle.std.specs.Prelude.{◌≡◌, ℕ, List, [], ◌∷◌, length, slice_get, Option, Some, None}
 use Rattle.std.specs.List.{Contains}
 use Rattle.me_terms.specs.Substitutions.{Family}
 use Rattle.me_terms.specs.Measures.{literal_weight, canonical_literal}
