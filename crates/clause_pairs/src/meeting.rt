@@ -1,7 +1,7 @@
 //! Which literals of a problem an entry stands against.
 //!
-//! Against a literal without variables it stands where it generalizes the atom, so most literals are told
-//! apart by matching alone, and atoms of different predicates never unify.
+//! Atoms of different predicates never unify, so most literals are told apart at a first look; against a literal
+//! without variables the entry stands where it generalizes the atom, which matching alone tells.
 ghost use Rattle.std.specs.Prelude.{◌≡◌, ◌⊎◌, not, ◌<◌, ◌-◌, ◌^◌, ℕ, [], length, IfOk, IsTrue, ◌↔◌};
 ghost use Rattle.std.specs.List.{Contains};
 ghost use Rattle.me_terms.specs.Contradictory.{Unifiable};
@@ -26,10 +26,23 @@ fn unifies(alloc: Global, atom: &Atom, other: &Atom) -> Result<bool, AllocError>
     Bindings::new(alloc).unify(0, atom, 1, other)
 }
 
+/// Whether the pattern is an atom of another predicate than the literal's.
+fn is_apart(atom: &Pattern, literal: &Literal) -> bool
+    ensures { IsTrue result → ¬ Unifiable atom.now (pattern.Of literal.now.atom) }
+{
+    match atom {
+        Pattern::Any => false,
+        Pattern::Of(other) => other.pred != literal.atom.pred,
+    }
+}
+
 /// Whether the pattern and the atom of the literal have a common instance.
 fn meets(alloc: Global, atom: &Pattern, literal: &Literal) -> Result<bool, AllocError>
     ensures { IfOk result (λ answer. IsTrue answer ↔ Unifiable atom.now (pattern.Of literal.now.atom)) }
 {
+    if is_apart(atom, literal) {
+        return Ok(false);
+    }
     if is_ground(literal) {
         return Ok(matches(atom, &literal.atom));
     }
