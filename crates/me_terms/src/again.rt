@@ -136,6 +136,7 @@ impl<T: Again> Sequence<T> {
         ensures { IfOk result (λ copy. copy.items ≡ self.now.items) }
     {
         let mut copy = Sequence::new(alloc);
+        copy.reserve(self.len())?;
         for item in self.as_slice() {
             let item = item.again(alloc)?;
             if copy.push(item).is_err() {

@@ -78,7 +78,7 @@ fn numbered_all(
     ensures terms { IfOk result (λ form. (later : List ℕ) → arguments_of form.items ≡ apply_arguments (by_place (names.new.keys ++ later)) (arguments_of terms.now.items)) }
     ensures small { OnOk result (All (λ y. y < 2 ^ 32) names.new.keys) }
 {
-    let mut made = Terms::new(alloc);
+    let mut made = Terms::with_capacity(alloc, terms.len())?;
     for k in 0..terms.len() {
         let Some(term) = terms.get(k) else {
             unreachable!();

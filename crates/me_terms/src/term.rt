@@ -135,6 +135,15 @@ impl Terms {
         self.items.get(k as usize)
     }
 
+    /// A list without terms that has room for `n`.
+    pub fn with_capacity(alloc: Global, n: u64) -> Result<Self, AllocError>
+        ensures { IfOk result (λ list. list.items ≡ []) }
+    {
+        let mut list = Terms::new(alloc);
+        list.reserve(n)?;
+        Ok(list)
+    }
+
     /// Makes room for `n` further terms, or changes nothing where memory is out. An empty list gets room
     /// for no more than these.
     pub fn reserve(&mut self, n: u64) -> Result<(), AllocError>
@@ -281,7 +290,7 @@ impl Terms {
     {
         let mut above: Vec<Frame<'_>> = Vec::new(alloc);
         let mut rest = self.as_slice();
-        let mut made = Terms::new(alloc);
+        let mut made = Terms::with_capacity(alloc, self.len())?;
         'terms: loop {
             if let Some((first, others)) = rest.split_first() {
                 match first {
@@ -297,7 +306,7 @@ impl Terms {
                             made,
                             rest: others,
                         })?;
-                        made = Terms::new(alloc);
+                        made = Terms::with_capacity(alloc, args.len())?;
                         rest = args.as_slice();
                     }
                 }

@@ -24,7 +24,7 @@ fn filled_all(alloc: Global, terms: &Terms, c0: u32) -> Result<Terms, AllocError
 {
     let mut above: Vec<Filling<'_>> = Vec::new(alloc);
     let mut rest = terms.as_slice();
-    let mut made = Terms::new(alloc);
+    let mut made = Terms::with_capacity(alloc, terms.len())?;
     'terms: loop {
         if let Some((first, others)) = rest.split_first() {
             match first {
@@ -41,7 +41,7 @@ fn filled_all(alloc: Global, terms: &Terms, c0: u32) -> Result<Terms, AllocError
                         made,
                         rest: others,
                     })?;
-                    made = Terms::new(alloc);
+                    made = Terms::with_capacity(alloc, args.len())?;
                     rest = args.as_slice();
                 }
             }

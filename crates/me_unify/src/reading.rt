@@ -83,7 +83,7 @@ impl Arena {
     {
         let mut above: Vec<Writing<'_>> = Vec::new(alloc);
         let mut rest = xs;
-        let mut made = Terms::new(alloc);
+        let mut made = Terms::with_capacity(alloc, xs.len() as u64)?;
         'nodes: loop {
             if let Some((first, others)) = rest.split_first() {
                 let last = self.links.find(*first);
@@ -101,7 +101,7 @@ impl Arena {
                             made,
                             rest: others,
                         })?;
-                        made = Terms::new(alloc);
+                        made = Terms::with_capacity(alloc, args.len() as u64)?;
                         rest = args.as_slice();
                     }
                 }
@@ -179,7 +179,7 @@ impl Arena {
         ensures names { (u : Family) → IsRead self.now.nodes self.now.links u → OnOk result (numbers names.new.keys ≡ first_ones (numbers names.old.keys) (variables_of (apply_arguments (u space) (arguments_of terms.now.items)))) }
         ensures terms { (u : Family) → IsRead self.now.nodes self.now.links u → IfOk result (λ form. (later : List ℕ) → arguments_of form.items ≡ apply_arguments (by_place (numbers names.new.keys ++ later)) (apply_arguments (u space) (arguments_of terms.now.items))) }
     {
-        let mut made = Terms::new(alloc);
+        let mut made = Terms::with_capacity(alloc, terms.len())?;
         for k in 0..terms.len() {
             let Some(term) = terms.get(k) else {
                 unreachable!();

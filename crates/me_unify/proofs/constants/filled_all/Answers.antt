@@ -15,10 +15,10 @@ terms-smaller-in-App c =
 pub terms-preserved-in-App : goal.terms-preserved-in-App
 terms-preserved-in-App c =
     let s : Substitution = λ x. constant c.args.c0 in
-    written_opened s (map opened c.terms.above.items) (map opened c.push-in-App.new.self.items) (opened (record { f = c.in-App.f; made = c.terms.made; rest = c.in-Some.others })) c.new-made-in-App.result.items c.terms.made.items (map term_value c.terms.rest.now) (map term_value c.as_slice-rest-in-App.result.now) _ c.in-App.f
+    written_opened s (map opened c.terms.above.items) (map opened c.push-in-App.new.self.items) (opened (record { f = c.in-App.f; made = c.terms.made; rest = c.in-Some.others })) c.in_ok-made-in-App.made.items c.terms.made.items (map term_value c.terms.rest.now) (map term_value c.as_slice-rest-in-App.result.now) _ c.in-App.f
     (list_is c.terms.rest.now c.in-Some.others.now c.as_slice-rest-in-App.result.now c.in-Some.first.now c.in-App.f c.in-App.args c.in-Some.ensures.cases.0 c.in-App.is c.as_slice-rest-in-App.ensures)
     (map_end opened _ _ _ c.in_ok-push-in-App.ensures.items)
-    refl refl c.new-made-in-App.ensures c.terms.invariant
+    refl refl c.in_ok-made-in-App.ensures c.terms.invariant
 
 pub terms-smaller : goal.terms-smaller
 terms-smaller c = closed_less (map opened c.terms.above.items) (map opened c.pop.new.self.items) (opened c.in-Some-pop.frame) _ (map_end opened _ _ _ c.in-Some-pop.ensures.items)

@@ -8,7 +8,7 @@ terms-smaller-in-App c = opened_less c.terms.above.items c.push-in-App.new.self.
 
 pub terms-preserved-in-App : goal.terms-preserved-in-App
 terms-preserved-in-App c =
-    ap (λ ms. whole c.push-in-App.new.self.items (ms ++ map term_value c.as_slice-rest-in-App.result.now)) c.new-made-in-App.ensures
+    ap (λ ms. whole c.push-in-App.new.self.items (ms ++ map term_value c.as_slice-rest-in-App.result.now)) c.in_ok-made-in-App.ensures
     ∙ frame_opened c.terms.above.items c.push-in-App.new.self.items (record { f = c.in-App.f; made = c.terms.made; rest = c.in-Some.others }) c.terms.made.items c.terms.rest.now c.as_slice-rest-in-App.result.now c.in-Some.first.now c.in-App.f c.in-App.args _ c.in-Some.ensures.cases.0 c.in-App.is c.as_slice-rest-in-App.ensures c.in_ok-push-in-App.ensures.items refl refl c.terms.invariant
 
 pub terms-smaller : goal.terms-smaller

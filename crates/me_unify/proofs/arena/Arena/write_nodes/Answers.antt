@@ -36,8 +36,8 @@ nodes-preserved-in-App c =
     record {
       names = ap (first_ones (numbers c.nodes.names.keys)) (variables_opened (map (opened h) c.nodes.above.items) (map (opened h) c.push-in-App.new.self.items) (opened h frame) (map h c.nodes.rest.now) (map h c.as_slice-rest.result.now) c.in-App.f list end)
           ∙ c.nodes.invariant.names;
-      made = λ later. written_opened (by_place (all ++ later)) (map (opened h) c.nodes.above.items) (map (opened h) c.push-in-App.new.self.items) (opened h frame) c.new-made-in-App.result.items c.nodes.made.items (map h c.nodes.rest.now) (map h c.as_slice-rest.result.now) _ c.in-App.f
-          list end refl refl c.new-made-in-App.ensures (c.nodes.invariant.made later);
+      made = λ later. written_opened (by_place (all ++ later)) (map (opened h) c.nodes.above.items) (map (opened h) c.push-in-App.new.self.items) (opened h frame) c.in_ok-made-in-App.made.items c.nodes.made.items (map h c.nodes.rest.now) (map h c.as_slice-rest.result.now) _ c.in-App.f
+          list end refl refl c.in_ok-made-in-App.ensures (c.nodes.invariant.made later);
       within = subst P (sym c.as_slice-rest.ensures.value) (args_within c.args.self.now.nodes c.args.self.now.links c.find-last.result c.node.result.now c.in-App.f c.in-App.args c.requires.arena c.node.ensures c.in-App.is);
       within_above = subst Q (sym c.in_ok-push-in-App.ensures.items) (All-push (IsWithin (length c.args.self.now.nodes)) c.nodes.above.items frame c.nodes.invariant.within_above
           (others_within (length c.args.self.now.nodes) c.nodes.rest.now c.in-Some.others.now c.in-Some.first.now c.in-Some.ensures.cases.0 c.nodes.invariant.within));
