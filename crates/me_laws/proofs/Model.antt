@@ -111,7 +111,7 @@ module _ (context : Context) (s : Substitution) (literals : List Literal) (picks
       let general = exist context literals places family solves in
       (general.0, record { opposite = opposite; unifier = general.1 }, lifted context literals places general.0 family general.1 solves productive)
 
-model : UnifiersExist → (problem : ProblemValue) (context : Context) → IsContext context → ¬ HasProductive problem context → IsModel problem context
+pub model : UnifiersExist → (problem : ProblemValue) (context : Context) → IsContext context → ¬ HasProductive problem context → IsModel problem context
 unfolding places
 model exist problem context h none = λ c literals ground_instance.
     let clause = ground_instance.0 in

@@ -53,7 +53,10 @@ by_outcome problem bounds context (Sat other) h e =
 by_outcome problem bounds context (Closed list) h e = absurd (no_list (nat_le (list_weight list) bounds.list) list context e)
 by_outcome problem bounds context (Met b) h e = cc e
 
+pub satisfiable_exhausted : (problem : ProblemValue) (bounds : Bounds) (context : Context) → HasAnswer problem bounds (Satisfiable context) → IsGrown problem bounds context × IsNext problem bounds context Exhausted
+satisfiable_exhausted problem bounds context reply = by_outcome problem bounds context reply.0 (gives started reply.1) reply.2
+
 pub satisfiable_model : (problem : ProblemValue) (bounds : Bounds) (context : Context) → HasAnswer problem bounds (Satisfiable context) → IsContext context × IsConsistent context × IsModel problem context
 satisfiable_model problem bounds context reply =
-    let h = by_outcome problem bounds context reply.0 (gives started reply.1) reply.2 in
+    let h = satisfiable_exhausted problem bounds context reply in
     let whole = grown h.0 in (whole.0, whole.1, exhausted_model problem bounds context whole.0 h.1)

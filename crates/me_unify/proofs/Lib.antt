@@ -11,6 +11,7 @@ pub mod Made
 pub mod Measures
 pub mod MoreNodes
 pub mod MostGeneral
+pub mod MostGeneralExists
 pub mod OneAtom
 pub mod Posed
 pub mod Ranked

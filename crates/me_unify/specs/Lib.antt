@@ -1,6 +1,7 @@
 pub mod ClauseEquations
 pub mod Equations
 pub mod Indexed
+pub mod Laws
 pub mod Left
 pub mod Linked
 pub mod Marks

@@ -56,7 +56,7 @@ impl Bindings {
     /// The number of equations so far.
     pub fn mark(&self) -> u64
         ensures count { result ≡ length self.now }
-        ensures unifier { (u : Family) × IsMostGeneral self.now u }
+        ensures solvable { IsSolvable self.now }
     {
         self.steps.len() as u64
     }

@@ -11,6 +11,7 @@ mod closure;
 mod constants;
 mod equate;
 mod flat;
+mod laws;
 mod links;
 mod measure;
 mod node;
@@ -23,4 +24,5 @@ mod variable;
 mod walk;
 
 pub use bindings::Bindings;
+pub use laws::most_general_unifiers_exist;
 pub use measure::Measure;
