@@ -21,6 +21,7 @@ mod reading;
 mod same;
 mod step;
 mod variable;
+mod variable_index;
 mod walk;
 
 pub use bindings::Bindings;

@@ -1,12 +1,12 @@
 //! The nodes of terms, with a look-up of those of variables.
 //!
 //! A contract sees a list of nodes. Each variable has one node there at most.
-ghost use Rattle.std.specs.Prelude.{◌≡◌, ◌-◌, ◌<◌, ◌∷◌, [], ◌++◌, ◌^◌, IfSome, OnOk, OnErr, None, Some, length, take, slice_get};
+ghost use Rattle.std.specs.Prelude.{◌≡◌, ℕ, ◌-◌, ◌<◌, ◌∷◌, [], ◌++◌, ◌^◌, IfSome, OnOk, OnErr, None, Some, length, take, slice_get};
 ghost use Rattle.me_unify.specs.Nodes.{IsFresh};
-ghost use Rattle.me_unify.specs.Indexed.{IsNodeNoted, IsForgotten};
+ghost use Rattle.me_unify.specs.Indexed.{found_in, IsNodeNoted, IsForgotten};
 
 use crate::node::Node;
-use indexmap::IndexMap;
+use crate::variable_index::VariableIndex;
 use std::alloc::{AllocError, Global};
 use std::marker::Model;
 
@@ -14,7 +14,7 @@ use std::marker::Model;
 #[derive(Drop)]
 pub(crate) struct NodeList {
     items: Vec<Node>,
-    places: IndexMap<(u32, u32), usize>,
+    variables: VariableIndex,
 }
 
 impl Model for NodeList {
@@ -25,33 +25,28 @@ impl Model for NodeList {
 
     ghost view = { λ n. n.items.items };
 
-    ghost use Rattle.me_unify.specs.Indexed.{IsIndexed};
+    ghost use Rattle.me_unify.specs.Indexed.{IsIndexed, found_in};
 
-    ghost invariant = { λ n. IsIndexed n.items.items n.places.entries };
+    ghost invariant = { λ n. IsIndexed n.items.items (found_in n.variables) };
 }
 
-/// Notes where a node stands, if it is that of a variable.
-fn note(places: &mut IndexMap<(u32, u32), usize>, node: &Node, x: usize) -> Result<(), AllocError>
-    ensures ok { OnOk result (IsNodeNoted node.now x places.old.entries places.new.entries) }
-    ensures err { OnErr result (places.new.entries ≡ places.old.entries) }
+/// Notes where a node stands, if it is that of a variable. Where memory is out all is as before.
+fn note(variables: &mut VariableIndex, node: &Node, x: usize) -> Result<(), AllocError>
+    ensures ok { OnOk result (IsNodeNoted node.now x (found_in variables.old) (found_in variables.new)) }
+    ensures err { OnErr result ((v : ℕ × ℕ) → found_in variables.new v ≡ found_in variables.old v) }
 {
     match node {
-        Node::Var { space, var } => match places.insert((*space, *var), x) {
-            Ok(_) => Ok(()),
-            Err(_) => Err(AllocError),
-        },
+        Node::Var { space, var } => variables.note(*space, *var, x),
         Node::App { f: _, args: _ } => Ok(()),
     }
 }
 
 /// Forgets where a node stood, if it was that of a variable.
-fn forget(places: &mut IndexMap<(u32, u32), usize>, node: Node)
-    ensures { IsForgotten node places.old.entries places.new.entries }
+fn forget(variables: &mut VariableIndex, node: Node)
+    ensures { IsForgotten node (found_in variables.old) (found_in variables.new) }
 {
     match node {
-        Node::Var { space, var } => {
-            places.swap_remove(&(space, var));
-        }
+        Node::Var { space, var } => variables.forget(space, var),
         Node::App { f: _, args: _ } => {}
     }
 }
@@ -63,7 +58,7 @@ impl NodeList {
     {
         NodeList {
             items: Vec::new(alloc),
-            places: IndexMap::new(alloc),
+            variables: VariableIndex::new(alloc),
         }
     }
 
@@ -94,7 +89,7 @@ impl NodeList {
         ensures some { IfSome result (λ x. slice_get self.now x ≡ Some (Node.Var space var)) }
         ensures none { result ≡ None → IsFresh self.now (Node.Var space var) }
     {
-        self.places.get(&(space, var)).copied()
+        self.variables.find(space, var)
     }
 
     /// Puts a node at the end. A variable must be new. Where memory is out all is as before.
@@ -105,7 +100,7 @@ impl NodeList {
     {
         self.items.reserve(1)?;
         let x = self.items.len();
-        note(&mut self.places, &node, x)?;
+        note(&mut self.variables, &node, x)?;
         self.items.push_reserved(node);
         Ok(())
     }
@@ -115,7 +110,7 @@ impl NodeList {
         ensures { self.new ≡ take (length self.old - 1) self.old }
     {
         if let Some(node) = self.items.pop() {
-            forget(&mut self.places, node);
+            forget(&mut self.variables, node);
         }
     }
 
