@@ -11,9 +11,9 @@ use Rattle.std.specs.Global.{Global}
 use Rattle.std.specs.declared.string.String.{String}
 use Rattle.darwin_options.specs.AcceptedWords.{AreAccepted}
 use Rattle.darwin_options.specs.declared.options.Options.{Options}
-use Rattle.darwin_cli.specs.Calls.{default_name, IsWordsCause, CallWrote}
+use Rattle.darwin_cli.specs.Calls.{default_name, IsWordsCause, CallWrote, CallStood}
 use Rattle.darwin_cli.specs.Outcome.{IsAnswered, IsCause, status_of}
-use Rattle.darwin_cli.specs.Statuses.{IsWrittenOut, OptionsWrote, IsFileStatus, IsMadeStatus}
+use Rattle.darwin_cli.specs.Statuses.{IsWrittenOut, OptionsWrote, TextStood, IsFileStatus, IsMadeStatus}
 use Rattle.darwin_cli.proofs.Causes.{refused_status, file_status, complete_status, answered_is_not_refused}
 use Rattle.darwin_cli.proofs.Told.{told, own_status}
 
@@ -116,6 +116,12 @@ module _ {S K : Type 0} (left : S → Option (List ℕ)) (given : S → ℕ) (en
         same_refusal : IsErrOf {T = V} {E = Refusal} (Err r) Length → r ≡ Length
         same_refusal e = cc e
 
+    -- what was found stood before its first byte was written
+    pub stood : (found : Result V Refusal) (status : ℕ) → IsFound found → FoundOut found status
+        → TextStood left given ended faults written broken options old new sink sink' status
+    stood (Ok v) status is out = inl (items v, is.0, out.0)
+    stood (Err r) status is out = inr (r, is.1, out.1)
+
     pub file_status_is : (found : Result V Refusal) (status : ℕ) → options.make ≡ None → IsFound found → FoundOut found status
         → IsFileStatus left faults broken old new sink sink' status
     file_status_is (Ok v) status unmade is out =
@@ -196,6 +202,9 @@ module _ {S K : Type 0} (left : S → Option (List ℕ)) (given : S → ℕ) (en
         usage = λ not. (told (λ n. (n ≡ 1) ⊎ (6 ≤ n)) r status out.status_is (λ six. inr (omega arith)) (words_status words r cause), refl);
         too_long = λ many. absurd (omega (arith, many));
       }
+
+  pub words_stood : (r : Refusal) (status : ℕ) → IsWordsCause words r → WordsOut r status → CallStood left given ended faults written broken words old old sink sink' status
+  words_stood r status cause out = inl (r, (cause, refl), out)
 
   pub words_file_status : (r : Refusal) (status : ℕ) → AreAccepted words → IsWordsCause words r → WordsOut r status → IsFileStatus left faults broken old old sink sink' status
   words_file_status r status accepted cause out =

@@ -18,6 +18,7 @@ use Rattle.szs_print.specs.RefusalText.{refusal_text}
 use Rattle.szs_print.specs.declared.refusal.Refusal.{Refusal}
 use Rattle.szs_print.specs.declared.refusal.Refusal.TheVariants.{Usage, Syntax, Inappropriate, Limit, Length, Read, Memory}
 use Rattle.darwin_cli.specs.Outcome.{status_of, IsAnswered, IsRefused, IsDue}
+use Rattle.darwin_cli.specs.Statuses.{IsWrittenOut, TextStood}
 
 -- The name in what is written of words that are refused.
 abbrev pub default_name : List ℕ
@@ -108,3 +109,10 @@ module _ {S K : Type 0} (left : S → Option (List ℕ)) (given : S → ℕ) (en
     pub sink_fault : status ≡ 6 → Rose (broken sink) (broken sink')
     pub usage : ¬ AreAccepted words → ((status ≡ 1) ⊎ (6 ≤ status)) × (new ≡ old)
     pub too_long : given old + MAX_BYTES < given new → (status ≡ 4) ⊎ (status ≡ 6)
+
+  -- One text stood before its first byte was written, and nothing of another one was written: that of an answer, after which only the statuses 0 and 6 remain, or that of a refusal, which has its cause, after which only its own status and 6 remain. Words that are refused are told under the default name.
+  abbrev pub CallStood : ℕ → Type 0
+  CallStood status =
+      ((refusal : Refusal) × AreWordsRefused left given ended faults words old new refusal
+      × IsWrittenOut (written sink) (written sink') (broken sink) (broken sink') (status_of refusal) (refusal_text default_name refusal) status)
+      ⊎ ((options : Options) × Asks words options × TextStood left given ended faults written broken options old new sink sink' status)

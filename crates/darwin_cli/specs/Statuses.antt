@@ -5,10 +5,11 @@ use Rattle.me_io.specs.Source.{Rose}
 use Rattle.me_io.specs.Sink.{AppendedFront}
 use Rattle.me_io.specs.declared.source.TheConstants.{MAX_BYTES}
 use Rattle.me_terms.specs.Values.{ProblemValue}
+use Rattle.szs_print.specs.RefusalText.{refusal_text}
 use Rattle.szs_print.specs.declared.refusal.Refusal.{Refusal}
 use Rattle.tptp_cnf.specs.Files.{IsFile}
 use Rattle.darwin_options.specs.declared.options.Options.{Options}
-use Rattle.darwin_cli.specs.Outcome.{IsFileCause, IsAnswered, IsRefused, IsDue, status_of}
+use Rattle.darwin_cli.specs.Outcome.{IsFileCause, IsAnswered, IsRefused, IsCause, IsDue, status_of}
 
 -- A text was written out: whole, and nothing else, with the status that is due; or only a front of it, with status 6, since the sink failed. The sink held these bytes before and those after it, and its count of faults was this and then that.
 pub record IsWrittenOut (held held' : Option (List ℕ)) (faults faults' due : ℕ) (text : List ℕ) (status : ℕ) : Type 0 where
@@ -28,6 +29,22 @@ module _ {S K : Type 0} (left : S → Option (List ℕ)) (given : S → ℕ) (en
     pub front : status ≡ 6 → (text : List ℕ) × (n : ℕ) × IsDue left given ended faults options old new text × AppendedFront (written sink) (written sink') n text
     pub sink_fault : status ≡ 6 → Rose (broken sink) (broken sink')
     pub too_long : given old + MAX_BYTES < given new → (status ≡ 4) ⊎ (status ≡ 6)
+
+  -- The text of an answer stood before its first byte was written. Writing it takes no memory, so only the statuses 0 and 6 remain.
+  abbrev pub AnswerStood : ℕ → Type 0
+  AnswerStood status =
+      (text : List ℕ) × IsAnswered left given ended faults options old new text
+      × IsWrittenOut (written sink) (written sink') (broken sink) (broken sink') 0 text status
+
+  -- The text of a refusal, which has its cause, stood before its first byte was written. Only its own status and 6 remain.
+  abbrev pub RefusalStood : ℕ → Type 0
+  RefusalStood status =
+      (refusal : Refusal) × IsCause left given ended faults options old new refusal
+      × IsWrittenOut (written sink) (written sink') (broken sink) (broken sink') (status_of refusal) (refusal_text options.name.items refusal) status
+
+  -- One text stood, and nothing of another one was written.
+  abbrev pub TextStood : ℕ → Type 0
+  TextStood status = AnswerStood status ⊎ RefusalStood status
 
 -- What is known of a source and a sink, and what each was before and after a call.
 module _ {S K : Type 0} (left : S → Option (List ℕ)) (faults : S → ℕ) (broken : K → ℕ) (old new : S) (sink sink' : K) where

@@ -5,9 +5,9 @@
 ghost use Rattle.std.specs.Prelude.{◌≡◌, ◌≢◌, None, IsSome, IfOk, IfErr};
 ghost use Rattle.szs_print.specs.RefusalText.{refusal_text};
 ghost use Rattle.darwin_options.specs.Ranges.{IsInRange};
-ghost use Rattle.darwin_cli.specs.Calls.{AskForFile, AskForMade, CallWrote, WroteOneText, words_told_as};
+ghost use Rattle.darwin_cli.specs.Calls.{AskForFile, AskForMade, CallStood, CallWrote, WroteOneText, words_told_as};
 ghost use Rattle.darwin_cli.specs.Outcome.{status_of as status_number};
-ghost use Rattle.darwin_cli.specs.Statuses.{IsFileStatus, IsMadeStatus, IsWrittenOut, OptionsWrote};
+ghost use Rattle.darwin_cli.specs.Statuses.{IsFileStatus, IsMadeStatus, IsWrittenOut, OptionsWrote, TextStood};
 
 use crate::answer::{text_alone, text_by_pool};
 use darwin_options::{Options, WordsError, read_words};
@@ -38,6 +38,8 @@ pub fn run<R: Threads + Wait + Sync, S: Source, K: Sink, G: Gate>(
     gate: &G,
 ) -> u8
     ensures wrote { CallWrote S.left S.given S.ended S.faults K.written K.faults words.now.items source.old source.new sink.old sink.new result }
+    // Once the text of an answer stands only 0 and 6 remain.
+    ensures stands { CallStood S.left S.given S.ended S.faults K.written K.faults words.now.items source.old source.new sink.old sink.new result }
     // The text depends on no number of workers, share, gate or schedule.
     ensures one_text { result ≡ 0 → WroteOneText S.left S.given S.ended S.faults words.now.items source.old source.new (K.written sink.old) (K.written sink.new) }
     ensures file { AskForFile words.now.items → IsFileStatus S.left S.faults K.faults source.old source.new sink.old sink.new result }
@@ -68,6 +70,7 @@ pub fn run_alone<S: Source, K: Sink>(
 ) -> u8
     requires { IsInRange options.now }
     ensures wrote { OptionsWrote S.left S.given S.ended S.faults K.written K.faults options.now source.old source.new sink.old sink.new result }
+    ensures stands { TextStood S.left S.given S.ended S.faults K.written K.faults options.now source.old source.new sink.old sink.new result }
     ensures file { options.now.make ≡ None → IsFileStatus S.left S.faults K.faults source.old source.new sink.old sink.new result }
     ensures made { IsSome options.now.make → IsMadeStatus S.left S.faults K.faults source.old source.new sink.old sink.new result }
 {
@@ -86,6 +89,7 @@ fn run_options<R: Threads + Wait + Sync, S: Source, K: Sink, G: Gate>(
 ) -> u8
     requires { IsInRange options.now }
     ensures wrote { OptionsWrote S.left S.given S.ended S.faults K.written K.faults options.now source.old source.new sink.old sink.new result }
+    ensures stands { TextStood S.left S.given S.ended S.faults K.written K.faults options.now source.old source.new sink.old sink.new result }
     ensures file { options.now.make ≡ None → IsFileStatus S.left S.faults K.faults source.old source.new sink.old sink.new result }
     ensures made { IsSome options.now.make → IsMadeStatus S.left S.faults K.faults source.old source.new sink.old sink.new result }
 {

@@ -1,6 +1,6 @@
 use Rattle.std.proofs.Common.{inl, inr, ℕ, List, refl, subst, sym}
 use Rattle.darwin_cli.proofs.OneText.{wrote_one_text}
-use Rattle.darwin_cli.proofs.Statuses.{words_not_answered, words_wrote, words_file_status, words_made_status}
+use Rattle.darwin_cli.proofs.Statuses.{words_not_answered, words_wrote, words_stood, words_file_status, words_made_status}
 use Rattle.darwin_cli.proofs.Told.{words_cause}
 use Rattle.darwin_cli.specs.Calls.{IsWordsCause}
 use Rattle.darwin_cli.proofs.top.run.Goals as goal
@@ -22,6 +22,7 @@ returns-in-Ok g c =
         usage = λ refused. absurd (refused (asked.0, asked.1));
         too_long = wrote.too_long;
       };
+      stands = inr (options, asked, c.run_options.ensures.stands);
       one_text = λ zero. let found = wrote.answered zero in wrote_one_text g.S.Source.left g.S.Source.given g.S.Source.ended g.S.Source.faults c.args.words.now.items options c.args.source.now c.run_options.new.source held held' found.0 asked found.1 found.2;
       file = λ ask. c.run_options.ensures.file (ask.unmade options asked);
       made = λ ask. c.run_options.ensures.made (ask.seeded options asked);
@@ -43,6 +44,7 @@ returns-in-Err g c =
     let cause : IsWordsCause words r = subst (IsWordsCause words) (sym c.refusal_of.ensures) (words_cause words c.in-Err.error c.in-Err.ensures.usage) in
     record {
       wrote = words_wrote left given ended faults written broken words old sink later r c.tell.result cause c.tell.ensures;
+      stands = words_stood left given ended faults written broken words old sink later r c.tell.result cause c.tell.ensures;
       one_text = λ zero. absurd (words_not_answered words r c.tell.result cause c.tell.ensures.status_is zero);
       file = λ ask. words_file_status left given ended faults written broken words old sink later r c.tell.result ask.accepted cause c.tell.ensures;
       made = λ ask. words_made_status left given ended faults written broken words old sink later r c.tell.result ask.accepted cause c.tell.ensures;
