@@ -1,0 +1,9 @@
+pub mod Symbols
+pub mod Nodes
+pub mod Grown
+pub mod Texts
+pub mod Tokens
+pub mod Longers
+pub mod Listed
+pub mod Printing
+pub mod Models

@@ -1,0 +1,10 @@
+pub mod Answers
+pub mod Claims
+pub mod ClaimText
+pub mod Lines
+pub mod Longer
+pub mod Printed
+pub mod Reads
+pub mod RowItems
+pub mod Rows
+pub mod Values

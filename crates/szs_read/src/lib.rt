@@ -1,0 +1,28 @@
+//! Printed answers are read back.
+//!
+//! `read_answer` gives what a text claims, exactly where it is the text of an answer as `szs_print` writes
+//! it, and else the first line with which no answer goes on. What a line says is read from its tokens
+//! without a grammar, and the line is accepted where it is the text of what was read, byte for byte.
+#![tactic(auto)]
+
+mod build;
+mod claim;
+mod entry;
+mod error;
+mod instance;
+mod laws;
+mod lines;
+mod list;
+mod literal;
+mod named;
+mod number;
+mod read;
+mod row;
+mod token;
+
+pub use claim::{Claim, EntryLine, EntryLines, InstanceLine, InstanceLines, MAX_OPEN};
+pub use error::AnswerError;
+pub use laws::{
+    printed_bounds_are_answers, printed_models_are_answers, printed_refutations_are_answers,
+};
+pub use read::{read_answer, read_atom};
