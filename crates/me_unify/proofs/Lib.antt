@@ -3,6 +3,7 @@ pub mod Bound
 pub mod Cut
 pub mod Differing
 pub mod Filling
+pub mod FlatEnds
 pub mod Forest
 pub mod Frames
 pub mod Indexed

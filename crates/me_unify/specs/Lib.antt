@@ -1,5 +1,6 @@
 pub mod ClauseEquations
 pub mod Equations
+pub mod FlatEnds
 pub mod Indexed
 pub mod Laws
 pub mod Left

@@ -19,6 +19,7 @@ mod node_list;
 mod order;
 mod reading;
 mod same;
+mod shallow;
 mod step;
 mod variable;
 mod variable_index;

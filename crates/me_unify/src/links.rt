@@ -4,6 +4,7 @@
 //! and the last link can always be taken away.
 ghost use Rattle.std.specs.Prelude.{◌≡◌, ℕ, ◌∷◌, [], ◌++◌, ◌<◌, ◌≤◌, ◌≢◌, ◌+◌, OnOk, OnErr, length, slice_index};
 ghost use Rattle.me_unify.specs.Linked.{IsForest, Respects, Alike, NONE as NOT_LINKED, Colouring, AreDirected, IsLonger};
+ghost use Rattle.me_unify.specs.FlatEnds.{end_of};
 
 use crate::node::Node;
 use std::alloc::{AllocError, Global};
@@ -53,6 +54,7 @@ impl Links {
         ensures within { result < length self.now.place.items }
         ensures free { slice_index self.now.place.items result ≡ NOT_LINKED }
         ensures alike { Alike self.now x result }
+        ensures last { result ≡ end_of self.now x }
     {
         let mut at = x;
         'walk: loop {

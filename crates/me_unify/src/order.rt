@@ -1,7 +1,7 @@
 //! The occurs test: an order of the nodes in which each stands behind what its term is made of.
 //!
 //! One walk in depth, which comes to each node once. Where it meets a node that is still open, no terms
-//! make the linked nodes equal.
+//! make the linked nodes equal. Links that end at flat terms need no walk.
 ghost use Rattle.std.specs.Prelude.{◌≡◌, IfOk, IfSome, IsTrue, false, None, length};
 ghost use Rattle.me_terms.specs.Substitutions.{Family};
 ghost use Rattle.me_unify.specs.Linked.{IsForest, Respects, Colouring, IsColoured, AreNodes, AreClosed};
@@ -54,6 +54,9 @@ impl Links {
         ensures yes { IfOk result (λ answer. IsTrue answer → HasOrder nodes.now self.now) }
         ensures no { IfOk result (λ answer. answer ≡ false → (t : Family) (h : Colouring) → IsColoured nodes.now t h → ¬ Respects self.now h) }
     {
+        if self.are_shallow(nodes, mark) {
+            return Ok(true);
+        }
         let mut walk = Walk::new(alloc, self, nodes)?;
         for k in mark..self.froms.len() {
             if !walk.visit(self, nodes, self.froms[k])? {
