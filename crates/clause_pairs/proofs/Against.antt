@@ -4,39 +4,38 @@ use Rattle.std.specs.List.{Contains}
 use Rattle.std.proofs.lemmas.Bool.{cases_lt}
 use Rattle.std.proofs.lemmas.Option.{slice_get_within, slice_get_read}
 use Rattle.std.proofs.lemmas.List.Elements.{Contains-append_left, Contains-push, Contains-push_cases}
-use Rattle.me_terms.specs.Values.{ProblemValue, ClauseValue, EntryValue}
+use Rattle.me_terms.specs.Values.{ProblemValue, ClauseValue}
 use Rattle.me_terms.specs.Positions.{ClauseAt}
 use Rattle.me_terms.specs.declared.atom.Literal.{Literal}
 use Rattle.me_laws.proofs.Determined.{clause_same, literal_same}
-use Rattle.me_laws_increments.specs.Pairs.{IsPair}
 use Rattle.clause_pairs.specs.declared.clause_place.ClausePlace.{ClausePlace}
-use Rattle.clause_pairs.specs.Meetings.{IsAgainst, AgainstClause, AddsPlaces}
+use Rattle.clause_pairs.specs.Meetings.{LiteralAt, OfClause, AddsPlaces}
 use Rattle.clause_pairs.proofs.Changed.{one_place}
 
-number_cases : (i n : ℕ) → i < n + 1 → (i < n) ⊎ (i ≡ n)
+pub number_cases : (i n : ℕ) → i < n + 1 → (i < n) ⊎ (i ≡ n)
 number_cases i n h = elim (cases_lt i n) as (λ _. (i < n) ⊎ (i ≡ n)) [ inl l ↦ inl l | inr g ↦ inr (omega arith) ]
 
 -- ---- the literals of a clause
--- the place is one of the first n literals of clause c, and the entry stands against its literal
-abbrev pub AgainstFirst : EntryValue → List Literal → ℕ → ℕ → ClausePlace → Type 0
-AgainstFirst e literals c n q = (q.place < n) × AgainstClause e literals c q
+-- the place is one of the first n literals of clause c, and R holds of its literal
+abbrev pub OfFirst : (Literal → Type 0) → List Literal → ℕ → ℕ → ClausePlace → Type 0
+OfFirst R literals c n q = (q.place < n) × OfClause R literals c q
 
-module _ (e : EntryValue) (literals : List Literal) (c : ℕ) (before : List ClausePlace) where
-  pub first_start : AddsPlaces before before (AgainstFirst e literals c 0)
+module _ (R : Literal → Type 0) (literals : List Literal) (c : ℕ) (before : List ClausePlace) where
+  pub first_start : AddsPlaces before before (OfFirst R literals c 0)
   first_start q = (
     λ h. inl h,
     λ h. elim h as (λ _. Contains before q) [ inl old ↦ old | inr new ↦ (let lt = new.0 in absurd (omega (arith, lt))) ],
   )
 
-  pub first_more : (after : List ClausePlace) (i : ℕ) (l : Literal) → slice_get literals i ≡ Some l → IsPair e l → AddsPlaces before after (AgainstFirst e literals c i) → AddsPlaces before (after ++ record { clause = c; place = i } ∷ []) (AgainstFirst e literals c (i + 1))
+  pub first_more : (after : List ClausePlace) (i : ℕ) (l : Literal) → slice_get literals i ≡ Some l → R l → AddsPlaces before after (OfFirst R literals c i) → AddsPlaces before (after ++ record { clause = c; place = i } ∷ []) (OfFirst R literals c (i + 1))
   first_more after i l at pair h q =
       let new : ClausePlace = record { clause = c; place = i } in (
-        λ m. elim (Contains-push_cases after new q m) as (λ _. Contains before q ⊎ AgainstFirst e literals c (i + 1) q) [
-          | inl old ↦ elim ((h q).0 old) as (λ _. Contains before q ⊎ AgainstFirst e literals c (i + 1) q) [
+        λ m. elim (Contains-push_cases after new q m) as (λ _. Contains before q ⊎ OfFirst R literals c (i + 1) q) [
+          | inl old ↦ elim ((h q).0 old) as (λ _. Contains before q ⊎ OfFirst R literals c (i + 1) q) [
             | inl first ↦ inl first
             | inr s ↦ (let lt = s.0 in inr (omega (arith, lt), s.1))
           ]
-          | inr same ↦ (let P : ClausePlace → Type 0 = λ z. AgainstFirst e literals c (i + 1) z in inr (subst P same (omega arith, (refl, (l, at, pair)))))
+          | inr same ↦ (let P : ClausePlace → Type 0 = λ z. OfFirst R literals c (i + 1) z in inr (subst P same (omega arith, (refl, (l, at, pair)))))
         ],
         λ s. elim s as (λ _. Contains (after ++ new ∷ []) q) [
           | inl old ↦ Contains-append_left after (new ∷ []) q ((h q).1 (inl old))
@@ -47,9 +46,9 @@ module _ (e : EntryValue) (literals : List Literal) (c : ℕ) (before : List Cla
         ],
       )
 
-  pub first_past : (after : List ClausePlace) (i : ℕ) (l : Literal) → slice_get literals i ≡ Some l → ¬ IsPair e l → AddsPlaces before after (AgainstFirst e literals c i) → AddsPlaces before after (AgainstFirst e literals c (i + 1))
+  pub first_past : (after : List ClausePlace) (i : ℕ) (l : Literal) → slice_get literals i ≡ Some l → ¬ R l → AddsPlaces before after (OfFirst R literals c i) → AddsPlaces before after (OfFirst R literals c (i + 1))
   first_past after i l at none h q = (
-    λ m. elim ((h q).0 m) as (λ _. Contains before q ⊎ AgainstFirst e literals c (i + 1) q) [
+    λ m. elim ((h q).0 m) as (λ _. Contains before q ⊎ OfFirst R literals c (i + 1) q) [
       | inl first ↦ inl first
       | inr s ↦ (let lt = s.0 in inr (omega (arith, lt), s.1))
     ],
@@ -60,15 +59,15 @@ module _ (e : EntryValue) (literals : List Literal) (c : ℕ) (before : List Cla
         | inr here ↦
             (let m = t.1.1.0 in
             let P : ℕ → Type 0 = λ z. slice_get literals z ≡ Some m in
-            let Q : Literal → Type 0 = λ z. IsPair e z in
+            let Q : Literal → Type 0 = λ z. R z in
             absurd (none (subst Q (literal_same literals i m l (subst P here t.1.1.1) at) t.1.1.2)))
       ]
     ],
   )
 
-  pub first_all : (after : List ClausePlace) (n : ℕ) → n ≡ length literals → AddsPlaces before after (AgainstFirst e literals c n) → AddsPlaces before after (AgainstClause e literals c)
+  pub first_all : (after : List ClausePlace) (n : ℕ) → n ≡ length literals → AddsPlaces before after (OfFirst R literals c n) → AddsPlaces before after (OfClause R literals c)
   first_all after n all h q = (
-    λ m. elim ((h q).0 m) as (λ _. Contains before q ⊎ AgainstClause e literals c q) [ inl first ↦ inl first | inr s ↦ inr s.1 ],
+    λ m. elim ((h q).0 m) as (λ _. Contains before q ⊎ OfClause R literals c q) [ inl first ↦ inl first | inr s ↦ inr s.1 ],
     λ s. elim s as (λ _. Contains after q) [
       | inl old ↦ (h q).1 (inl old)
       | inr t ↦ (let lt = slice_get_within literals q.place t.1.0 t.1.1 in (h q).1 (inr (omega (arith, all, lt), t)))
@@ -76,20 +75,20 @@ module _ (e : EntryValue) (literals : List Literal) (c : ℕ) (before : List Cla
   )
 
 -- ---- the clauses of a problem
--- the list has the places of the first n clauses against which the entry stands, and no others
-abbrev pub HasFirst : ProblemValue → EntryValue → ℕ → List ClausePlace → Type 0
-HasFirst problem e n places = (q : ClausePlace) → Contains places q ↔ ((q.clause < n) × IsAgainst problem e q)
+-- the list has the places of the first n clauses of whose literals R holds, and no others
+abbrev pub HasFirst : ProblemValue → (Literal → Type 0) → ℕ → List ClausePlace → Type 0
+HasFirst problem R n places = (q : ClausePlace) → Contains places q ↔ ((q.clause < n) × ((l : Literal) × LiteralAt problem q l × R l))
 
-module _ (problem : ProblemValue) (e : EntryValue) where
-  pub none_start : HasFirst problem e 0 []
+module _ (problem : ProblemValue) (R : Literal → Type 0) where
+  pub none_start : HasFirst problem R 0 []
   none_start q = (
     λ m. (let lt = m.1 in absurd (omega (arith, lt))),
     λ h. (let lt = h.0 in absurd (omega (arith, lt))),
   )
 
-  pub clause_more : (before after : List ClausePlace) (n : ℕ) (clause : ClauseValue) → ClauseAt problem n clause → AddsPlaces before after (AgainstClause e clause.literals n) → HasFirst problem e n before → HasFirst problem e (n + 1) after
+  pub clause_more : (before after : List ClausePlace) (n : ℕ) (clause : ClauseValue) → ClauseAt problem n clause → AddsPlaces before after (OfClause R clause.literals n) → HasFirst problem R n before → HasFirst problem R (n + 1) after
   clause_more before after n clause at adds h q = (
-    λ m. elim ((adds q).0 m) as (λ _. (q.clause < n + 1) × IsAgainst problem e q) [
+    λ m. elim ((adds q).0 m) as (λ _. (q.clause < n + 1) × ((l : Literal) × LiteralAt problem q l × R l)) [
       | inl old ↦ (let g = (h q).0 old in let lt = g.0 in (omega (arith, lt), g.1))
       | inr new ↦
           (let here = new.0 in
@@ -107,7 +106,7 @@ module _ (problem : ProblemValue) (e : EntryValue) where
     ],
   )
 
-  pub clauses_all : (places : List ClausePlace) (n : ℕ) → n ≡ length problem.clauses → HasFirst problem e n places → (q : ClausePlace) → Contains places q ↔ IsAgainst problem e q
+  pub clauses_all : (places : List ClausePlace) (n : ℕ) → n ≡ length problem.clauses → HasFirst problem R n places → (q : ClausePlace) → Contains places q ↔ ((l : Literal) × LiteralAt problem q l × R l)
   clauses_all places n all h q = (
     λ m. ((h q).0 m).1,
     λ g. (let lt = slice_get_within problem.clauses q.clause g.1.0 g.1.1 in (h q).1 (omega (arith, all, lt), g)),

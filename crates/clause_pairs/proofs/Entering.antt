@@ -9,6 +9,7 @@ use Rattle.me_terms.specs.Values.{ProblemValue, EntryValue}
 use Rattle.me_terms.specs.Context.{Context, add}
 use Rattle.clause_pairs.specs.declared.clause_place.ClausePlace.{ClausePlace}
 use Rattle.clause_pairs.specs.Lists.{HasPlace, put_to, without, put_all}
+use Rattle.clause_pairs.specs.Index.{IndexValue}
 use Rattle.clause_pairs.specs.Meetings.{IsAgainst}
 use Rattle.clause_pairs.specs.Values.{PairsValue, lists_of, places_of}
 use Rattle.clause_pairs.specs.Pairs.{ArePairs}
@@ -24,19 +25,19 @@ Against = Vec ClausePlace Global
 abbrev places_in : Against → List ClausePlace
 places_in v = v.items
 
-abbrev pub kept : List Row → List Against → PairsValue
-kept lists entered = record { lists = lists_of lists; entered = places_of entered }
+abbrev pub kept : List Row → List Against → IndexValue → PairsValue
+kept lists entered x = record { lists = lists_of lists; entered = places_of entered; index = x }
 
 -- as many lists of places as entries
-pub as_many_entered : (problem : ProblemValue) (context : Context) (lists : List Row) (entered : List Against) → ArePairs problem context (kept lists entered) → length entered ≡ length context
-as_many_entered problem context lists entered h = sym (length-map entered places_in) ∙ h.each_entry
+pub as_many_entered : (problem : ProblemValue) (context : Context) (lists : List Row) (entered : List Against) (x : IndexValue) → ArePairs problem context (kept lists entered x) → length entered ≡ length context
+as_many_entered problem context lists entered x h = sym (length-map entered places_in) ∙ h.each_entry
 
 pushed : (entered after : List Against) (qs : Against) → after ≡ entered ++ qs ∷ [] → places_of after ≡ places_of entered ++ qs.items ∷ []
 pushed entered after qs is = ap places_of is ∙ map_push places_in entered qs
 
-module _ (problem : ProblemValue) (context : Context) (lists : List Row) (entered : List Against) (h : ArePairs problem context (kept lists entered)) (e : EntryValue) (qs : Against) (exact : (q : ClausePlace) → Contains qs.items q ↔ IsAgainst problem e q) where
+module _ (problem : ProblemValue) (context : Context) (lists : List Row) (entered : List Against) (x : IndexValue) (h : ArePairs problem context (kept lists entered x)) (e : EntryValue) (qs : Against) (exact : (q : ClausePlace) → Contains qs.items q ↔ IsAgainst problem e q) where
   pub enter_places : All (HasPlace (lists_of lists)) qs.items
-  enter_places = against_places problem context (kept lists entered) h e qs.items exact
+  enter_places = against_places problem context (kept lists entered x) h e qs.items exact
 
   as_many : length entered ≡ length context
   as_many = sym (length-map entered places_in) ∙ h.each_entry
@@ -45,10 +46,10 @@ module _ (problem : ProblemValue) (context : Context) (lists : List Row) (entere
     positive : 0 < length context
     positive = let same = as_many in omega (arith, same)
 
-    pub after_enter : (lists2 : List Row) (entered2 : List Against) → lists_of lists2 ≡ put_all (put_to k) (lists_of lists) qs.items → entered2 ≡ entered ++ qs ∷ [] → ArePairs problem (add context e) (kept lists2 entered2)
+    pub after_enter : (lists2 : List Row) (entered2 : List Against) → lists_of lists2 ≡ put_all (put_to k) (lists_of lists) qs.items → entered2 ≡ entered ++ qs ∷ [] → ArePairs problem (add context e) (kept lists2 entered2 x)
     after_enter lists2 entered2 ls es =
-        pairs_more problem context (kept lists entered) h e qs.items positive exact (kept lists2 entered2)
-        (ls ∙ ap (λ z. put_all (put_to z) (lists_of lists) qs.items) (is_k ∙ as_many)) (pushed entered entered2 qs es)
+        pairs_more problem context (kept lists entered x) h e qs.items positive exact (kept lists2 entered2 x)
+        (ls ∙ ap (λ z. put_all (put_to z) (lists_of lists) qs.items) (is_k ∙ as_many)) (pushed entered entered2 qs es) refl
 
     module _ (m : ℕ) (half : List Row) (hs : lists_of half ≡ put_all (put_to k) (lists_of lists) (take m qs.items)) where
       pub back_places : All (HasPlace (lists_of half)) qs.items
@@ -58,17 +59,17 @@ module _ (problem : ProblemValue) (context : Context) (lists : List Row) (entere
           let some_have = put_all (put_to k) (lists_of lists) (take m qs.items) in
           subst P (sym hs) (All-weaker (HasPlace (lists_of lists)) (HasPlace some_have) (λ q has. (all_place (put_to k) (take m qs.items) (lists_of lists) first q).1 has) qs.items enter_places)
 
-      pub after_refusal : (lists2 : List Row) → lists_of lists2 ≡ put_all (without k) (lists_of half) qs.items → ArePairs problem context (kept lists2 entered)
+      pub after_refusal : (lists2 : List Row) → lists_of lists2 ≡ put_all (without k) (lists_of half) qs.items → ArePairs problem context (kept lists2 entered x)
       after_refusal lists2 ls =
           let is = is_k ∙ as_many in
-          pairs_back problem context (kept lists entered) h e qs.items positive exact m (kept lists2 entered)
-          (ls ∙ (ap (λ z. put_all (without k) z qs.items) hs ∙ ap (λ z. put_all (without z) (put_all (put_to z) (lists_of lists) (take m qs.items)) qs.items) is)) refl
+          pairs_back problem context (kept lists entered x) h e qs.items positive exact m (kept lists2 entered x)
+          (ls ∙ (ap (λ z. put_all (without k) z qs.items) hs ∙ ap (λ z. put_all (without z) (put_all (put_to z) (lists_of lists) (take m qs.items)) qs.items) is)) refl refl
 
-module _ (problem : ProblemValue) (context : Context) (e : EntryValue) (lists : List Row) (was entered : List Against) (qs : Against) (h : ArePairs problem (add context e) (kept lists was)) (some : 0 < length context) (is : was ≡ entered ++ qs ∷ []) where
+module _ (problem : ProblemValue) (context : Context) (e : EntryValue) (lists : List Row) (was entered : List Against) (x : IndexValue) (qs : Against) (h : ArePairs problem (add context e) (kept lists was x)) (some : 0 < length context) (is : was ≡ entered ++ qs ∷ []) where
   pub leave_places : All (HasPlace (lists_of lists)) qs.items
-  leave_places = less_places problem context e (kept lists was) h some qs.items (places_of entered) (pushed entered was qs is)
+  leave_places = less_places problem context e (kept lists was x) h some qs.items (places_of entered) (pushed entered was qs is)
 
-  pub after_leave : (k : ℕ) (lists2 : List Row) → k ≡ length entered → lists_of lists2 ≡ put_all (without k) (lists_of lists) qs.items → ArePairs problem context (kept lists2 entered)
+  pub after_leave : (k : ℕ) (lists2 : List Row) → k ≡ length entered → lists_of lists2 ≡ put_all (without k) (lists_of lists) qs.items → ArePairs problem context (kept lists2 entered x)
   after_leave k lists2 is_k ls =
-      pairs_less problem context e (kept lists was) h some qs.items (places_of entered) (pushed entered was qs is) (kept lists2 entered)
-      (ls ∙ ap (λ z. put_all (without z) (lists_of lists) qs.items) (is_k ∙ sym (length-map entered places_in))) refl
+      pairs_less problem context e (kept lists was x) h some qs.items (places_of entered) (pushed entered was qs is) (kept lists2 entered x)
+      (ls ∙ ap (λ z. put_all (without z) (lists_of lists) qs.items) (is_k ∙ sym (length-map entered places_in))) refl refl

@@ -1,6 +1,10 @@
 pub mod Against
 pub mod Changed
 pub mod Entering
+pub mod Filing
+pub mod GroundAtoms
+pub mod Indexing
+pub mod Looked
 pub mod Meets
 pub mod Numbers
 pub mod PairLists

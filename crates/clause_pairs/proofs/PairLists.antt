@@ -119,7 +119,7 @@ one_literal problem q l m f g =
     let same = clause_same problem q.clause f.0 g.0 f.1 g.1 in
     literal_same g.0.literals q.place l m (ap (λ z. slice_get z.literals q.place) (sym same) ∙ f.2) g.2
 
-against_pair : (problem : ProblemValue) (e : EntryValue) (q : ClausePlace) (l : Literal) → LiteralAt problem q l → IsAgainst problem e q → IsPair e l
+pub against_pair : (problem : ProblemValue) (e : EntryValue) (q : ClausePlace) (l : Literal) → LiteralAt problem q l → IsAgainst problem e q → IsPair e l
 against_pair problem e q l at g = let P : Literal → Type 0 = λ z. IsPair e z in subst P (one_literal problem q g.0 l g.1 at) g.2
 
 module _ (problem : ProblemValue) (context : Context) (v : PairsValue) (h : ArePairs problem context v) where
@@ -167,10 +167,10 @@ module _ (problem : ProblemValue) (context : Context) (v : PairsValue) (h : AreP
               subst P (λ i. (is i, same i)) (exact q))
         ]
 
-    pub pairs_more : (after : PairsValue) → after.lists ≡ put_all (put_to n) v.lists qs → after.entered ≡ v.entered ++ qs ∷ [] → ArePairs problem (add context e) after
-    pairs_more after lists entered =
+    pub pairs_more : (after : PairsValue) → after.lists ≡ put_all (put_to n) v.lists qs → after.entered ≡ v.entered ++ qs ∷ [] → after.index ≡ v.index → ArePairs problem (add context e) after
+    pairs_more after lists entered index =
         let P : PairsValue → Type 0 = λ z. ArePairs problem (add context e) z in
-        let is : after ≡ record { lists = put_all (put_to n) v.lists qs; entered = v.entered ++ qs ∷ [] } = λ i. record { lists = lists i; entered = entered i } in
+        let is : after ≡ record { lists = put_all (put_to n) v.lists qs; entered = v.entered ++ qs ∷ []; index = v.index } = λ i. record { lists = lists i; entered = entered i; index = index i } in
         let len = length_push context e in
         let end = length_push v.entered qs in
         let each = h.each_entry in
@@ -180,6 +180,7 @@ module _ (problem : ProblemValue) (context : Context) (v : PairsValue) (h : AreP
           list = more_at;
           each_entry = omega (arith, len, end, each);
           places = places_more;
+          index = h.index;
         })
 
     module _ (m : ℕ) where
@@ -220,10 +221,10 @@ module _ (problem : ProblemValue) (context : Context) (v : PairsValue) (h : AreP
           ]
 
       -- where memory was out, some of the places have the number, and it comes off again
-      pub pairs_back : (after : PairsValue) → after.lists ≡ put_all (without n) some_have qs → after.entered ≡ v.entered → ArePairs problem context after
-      pairs_back after lists entered =
+      pub pairs_back : (after : PairsValue) → after.lists ≡ put_all (without n) some_have qs → after.entered ≡ v.entered → after.index ≡ v.index → ArePairs problem context after
+      pairs_back after lists entered index =
           let P : PairsValue → Type 0 = λ z. ArePairs problem context z in
-          let is : after ≡ record { lists = put_all (without n) some_have qs; entered = v.entered } = λ i. record { lists = lists i; entered = entered i } in
+          let is : after ≡ record { lists = put_all (without n) some_have qs; entered = v.entered; index = v.index } = λ i. record { lists = lists i; entered = entered i; index = index i } in
           subst P (sym is) (record {
             each_clause = all_length (without n) qs some_have still ∙ (all_length (put_to n) (take m qs) v.lists first ∙ h.each_clause);
             each_place = λ q. (let one = all_place (put_to n) (take m qs) v.lists first q in
@@ -232,6 +233,7 @@ module _ (problem : ProblemValue) (context : Context) (v : PairsValue) (h : AreP
             list = back_at;
             each_entry = h.each_entry;
             places = h.places;
+            index = h.index;
           })
 
 module _ (problem : ProblemValue) (context : Context) (e : EntryValue) (v : PairsValue) (h : ArePairs problem (add context e) v) (some : 0 < length context) where
@@ -278,14 +280,15 @@ module _ (problem : ProblemValue) (context : Context) (e : EntryValue) (v : Pair
         let P : List ClausePlace → Type 0 = λ z. Contains z q ↔ IsAgainst problem f q in
         subst P (ap (λ z. get_or z k []) was ∙ get_or_append_left entered (qs ∷ []) [] k (omega (arith, lt, many))) (h.places k f positive (push_old context e k f stands) q)
 
-    pub pairs_less : (after : PairsValue) → after.lists ≡ put_all (without (length entered)) v.lists qs → after.entered ≡ entered → ArePairs problem context after
-    pairs_less after lists is =
+    pub pairs_less : (after : PairsValue) → after.lists ≡ put_all (without (length entered)) v.lists qs → after.entered ≡ entered → after.index ≡ v.index → ArePairs problem context after
+    pairs_less after lists is index =
         let P : PairsValue → Type 0 = λ z. ArePairs problem context z in
-        let same : after ≡ record { lists = put_all (without (length context)) v.lists qs; entered = entered } = let at = lists ∙ ap (λ z. put_all (without z) v.lists qs) as_many in λ i. record { lists = at i; entered = is i } in
+        let same : after ≡ record { lists = put_all (without (length context)) v.lists qs; entered = entered; index = v.index } = let at = lists ∙ ap (λ z. put_all (without z) v.lists qs) as_many in λ i. record { lists = at i; entered = is i; index = index i } in
         subst P (sym same) (record {
           each_clause = all_length (without (length context)) qs v.lists all_have ∙ h.each_clause;
           each_place = λ q. (let place = all_place (without (length context)) qs v.lists all_have q in (λ has. (h.each_place q).0 (place.0 has), λ at. place.1 ((h.each_place q).1 at)));
           list = less_at;
           each_entry = as_many;
           places = places_less;
+          index = h.index;
         })

@@ -7,6 +7,7 @@ use Rattle.me_terms.specs.Positions.{ClauseAt}
 use Rattle.me_terms.specs.declared.atom.Literal.{Literal}
 use Rattle.entry_hiding.proofs.Marks.{at_below}
 use Rattle.clause_pairs.specs.declared.clause_place.ClausePlace.{ClausePlace}
+use Rattle.clause_pairs.specs.Index.{IsIndex}
 use Rattle.clause_pairs.specs.Lists.{HasPlace, list_at}
 use Rattle.clause_pairs.specs.Meetings.{LiteralAt}
 use Rattle.clause_pairs.specs.Values.{PairsValue}
@@ -60,14 +61,15 @@ none_alone e l = record {
   );
 }
 
-pub start_pairs : (problem : ProblemValue) (e : EntryValue) (v : PairsValue) → v.lists ≡ all_empty problem.clauses → v.entered ≡ [] ∷ [] → ArePairs problem (e ∷ []) v
-start_pairs problem e v lists entered =
+pub start_pairs : (problem : ProblemValue) (e : EntryValue) (v : PairsValue) → v.lists ≡ all_empty problem.clauses → v.entered ≡ [] ∷ [] → IsIndex problem v.index → ArePairs problem (e ∷ []) v
+start_pairs problem e v lists entered index =
     let P : PairsValue → Type 0 = λ z. ArePairs problem (e ∷ []) z in
-    let is : v ≡ record { lists = all_empty problem.clauses; entered = [] ∷ [] } = λ i. record { lists = lists i; entered = entered i } in
+    let is : v ≡ record { lists = all_empty problem.clauses; entered = [] ∷ []; index = v.index } = λ i. record { lists = lists i; entered = entered i; index = v.index } in
     subst P (sym is) (record {
       each_clause = length-map problem.clauses (λ (z : ClauseValue). empty_of z.literals);
       each_place = λ q. (place_to problem q, λ at. place_from problem q at.0 at.1);
       list = λ q l at. (let Q : List ℕ → Type 0 = λ z. IsPairList (e ∷ []) l z in subst Q (sym (none_at problem q l at)) (none_alone e l));
       each_entry = refl;
       places = λ k f positive stands. (let lt = slice_get_within (e ∷ []) k f stands in absurd (omega (arith, lt, positive)));
+      index = index;
     })

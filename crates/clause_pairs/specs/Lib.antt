@@ -1,3 +1,5 @@
+pub mod Filed
+pub mod Index
 pub mod Lists
 pub mod Meetings
 pub mod Pairs

@@ -3,11 +3,13 @@ use Rattle.std.specs.Prelude.{ℕ, List, map}
 use Rattle.std.specs.declared.vec.Vec.{Vec}
 use Rattle.std.specs.declared.alloc.Global.{Global}
 use Rattle.clause_pairs.specs.declared.clause_place.ClausePlace.{ClausePlace}
+use Rattle.clause_pairs.specs.Index.{IndexValue}
 
--- For each clause and place the positions that stand against its literal, but for that of the pseudo-literal; and for each position the places.
+-- For each clause and place the positions that stand against its literal, but for that of the pseudo-literal; for each position the places; and an index of the problem's literals.
 pub record PairsValue : Type 0 where
   pub lists : List (List (List ℕ))
   pub entered : List (List ClausePlace)
+  pub index : IndexValue
 
 -- the numbers of each list
 abbrev pub numbers_of : List (Vec ℕ Global) → List (List ℕ)

@@ -5,6 +5,8 @@
 #![tactic(auto)]
 
 mod clause_place;
+mod filed;
+mod index;
 mod lists;
 mod meeting;
 mod pairs;

@@ -8,8 +8,9 @@ ghost use Rattle.clause_pairs.specs.Pairs.{ArePairs};
 ghost use Rattle.clause_pairs.specs.Values.{numbers_of};
 
 use crate::clause_place::ClausePlace;
+use crate::index::Index;
 use crate::lists::{put_all_at, take_all_at};
-use crate::meeting::places_against;
+use crate::meeting::indexed_against;
 use me_terms::{Clause, Entry, Problem};
 use std::alloc::{AllocError, Global};
 use std::marker::Model;
@@ -20,17 +21,19 @@ use std::marker::Model;
 pub struct Pairs {
     lists: Vec<Vec<Vec<u32>>>,
     entered: Vec<Vec<ClausePlace>>,
+    index: Index,
 }
 
 impl Model for Pairs {
     ghost use Rattle.std.specs.Coded.{codes};
+    ghost use Rattle.me_terms.specs.Terms.{arguments_code};
     ghost use Rattle.clause_pairs.specs.Values.{PairsValue, lists_of, places_of};
 
     ghost Value = { PairsValue };
 
-    ghost coded = { Prim.hlevel (codes) };
+    ghost coded = { Prim.hlevel (codes, arguments_code) };
 
-    ghost view = { λ p. record { lists = lists_of p.lists.items; entered = places_of p.entered.items } };
+    ghost view = { λ p. record { lists = lists_of p.lists.items; entered = places_of p.entered.items; index = p.index } };
 }
 
 /// An empty list for each literal of the clause.
@@ -47,6 +50,7 @@ fn empty_lists(alloc: Global, clause: &Clause) -> Result<Vec<Vec<u32>>, AllocErr
 impl Pairs {
     /// The pairs where the pseudo-literal stands alone.
     pub fn new(alloc: Global, problem: &Problem) -> Result<Self, AllocError>
+        requires { IsValid problem.now }
         ensures { IfOk result (λ pairs. (e : EntryValue) → ArePairs problem.now (e ∷ []) pairs) }
     {
         let mut lists = Vec::new(alloc);
@@ -57,6 +61,7 @@ impl Pairs {
         Ok(Pairs {
             lists,
             entered: vec![in alloc; none]?,
+            index: Index::new(alloc, problem)?,
         })
     }
 
@@ -72,7 +77,7 @@ impl Pairs {
         ensures ok { OnOk result ((context : Context) → ArePairs problem.now context self.old → ArePairs problem.now (add context entry.now) self.new) }
         ensures err { OnErr result ((context : Context) → ArePairs problem.now context self.old → ArePairs problem.now context self.new) }
     {
-        let places = places_against(alloc, problem, entry)?;
+        let places = indexed_against(alloc, problem, entry, &self.index)?;
         self.entered.reserve(1)?;
         let position = self.entered.len() as u32;
         match put_all_at(&mut self.lists, &places, position) {

@@ -11,7 +11,7 @@ use Rattle.clause_pairs.proofs.pairs.Pairs.enter.Goals as goal
 pub put_all_at-requires : goal.put_all_at-requires
 put_all_at-requires c =
     let fits = rw (← c.self.view_is) at c.requires.fits in
-    rw c.deref.ensures.value (enter_places c.args.problem.now fits.0 c.self.inside.lists.items c.self.inside.entered.items fits.1 c.args.entry.now c.in_ok-places.places c.in_ok-places.ensures)
+    rw c.deref.ensures.value (enter_places c.args.problem.now fits.0 c.self.inside.lists.items c.self.inside.entered.items c.self.inside.index fits.1 c.args.entry.now c.in_ok-places.places c.in_ok-places.ensures)
 
 pub take_all_at-requires : goal.take_all_at-requires
 take_all_at-requires c =
@@ -19,15 +19,16 @@ take_all_at-requires c =
     let problem = c.args.problem.now in
     let lists = c.self.inside.lists.items in
     let entered = c.self.inside.entered.items in
+    let x = c.self.inside.index in
     let qs = c.in_ok-places.places in
     let k = c.len-position.result in
     let half = c.put_all_at.new.lists.items in
     let is_k : k ≡ length entered = omega (arith, ap length c.reserve.ensures.items) in
-    let many = as_many_entered problem fits.0 lists entered fits.1 in
+    let many = as_many_entered problem fits.0 lists entered x fits.1 in
     let positive = fits.2 in
     let P : List ClausePlace → Type 0 = λ z. (n : ℕ) × (lists_of half ≡ put_all (put_to k) (lists_of lists) (take n z)) in
     let some_have = subst P c.deref.ensures.value c.in-Err.ensures.err in
-    rw c.deref-in-Err.ensures.value (back_places problem fits.0 lists entered fits.1 c.args.entry.now qs c.in_ok-places.ensures k is_k (omega (arith, many, positive)) some_have.0 half some_have.1)
+    rw c.deref-in-Err.ensures.value (back_places problem fits.0 lists entered x fits.1 c.args.entry.now qs c.in_ok-places.ensures k is_k (omega (arith, many, positive)) some_have.0 half some_have.1)
 
 pub returns-in-Ok-clause-ok : goal.returns-in-Ok-clause-ok
 returns-in-Ok-clause-ok c context given =
@@ -36,13 +37,14 @@ returns-in-Ok-clause-ok c context given =
     let problem = c.args.problem.now in
     let lists = c.self.inside.lists.items in
     let entered = c.self.inside.entered.items in
+    let x = c.self.inside.index in
     let qs = c.in_ok-places.places in
     let k = c.len-position.result in
     let is_k : k ≡ length entered = omega (arith, ap length c.reserve.ensures.items) in
-    let many = as_many_entered problem fits.0 lists entered fits.1 in
+    let many = as_many_entered problem fits.0 lists entered x fits.1 in
     let positive = fits.2 in
     let P : List ClausePlace → Type 0 = λ z. lists_of c.put_all_at.new.lists.items ≡ put_all (put_to k) (lists_of lists) z in
-    after_enter problem context lists entered h c.args.entry.now qs c.in_ok-places.ensures k is_k (omega (arith, many, positive)) c.put_all_at.new.lists.items c.push_reserved.new.self.items
+    after_enter problem context lists entered x h c.args.entry.now qs c.in_ok-places.ensures k is_k (omega (arith, many, positive)) c.put_all_at.new.lists.items c.push_reserved.new.self.items
     (subst P c.deref.ensures.value c.in-Ok.ensures.ok)
     (c.push_reserved.ensures.items ∙ ap (λ (z : List (Vec ClausePlace Global)). z ++ qs ∷ []) c.reserve.ensures.items)
 
@@ -53,15 +55,16 @@ returns-in-Err-clause-err c context given =
     let problem = c.args.problem.now in
     let lists = c.self.inside.lists.items in
     let entered = c.self.inside.entered.items in
+    let x = c.self.inside.index in
     let qs = c.in_ok-places.places in
     let k = c.len-position.result in
     let half = c.put_all_at.new.lists.items in
     let is_k : k ≡ length entered = omega (arith, ap length c.reserve.ensures.items) in
-    let many = as_many_entered problem fits.0 lists entered fits.1 in
+    let many = as_many_entered problem fits.0 lists entered x fits.1 in
     let positive = fits.2 in
     let P : List ClausePlace → Type 0 = λ z. (n : ℕ) × (lists_of half ≡ put_all (put_to k) (lists_of lists) (take n z)) in
     let some_have = subst P c.deref.ensures.value c.in-Err.ensures.err in
     let Q : List ClausePlace → Type 0 = λ z. lists_of c.take_all_at.new.lists.items ≡ put_all (without k) (lists_of half) z in
-    let R : List (Vec ClausePlace Global) → Type 0 = λ z. ArePairs problem context (kept c.take_all_at.new.lists.items z) in
+    let R : List (Vec ClausePlace Global) → Type 0 = λ z. ArePairs problem context (kept c.take_all_at.new.lists.items z x) in
     subst R (sym c.reserve.ensures.items)
-    (after_refusal problem context lists entered h c.args.entry.now qs c.in_ok-places.ensures k is_k (omega (arith, many, positive)) some_have.0 half some_have.1 c.take_all_at.new.lists.items (subst Q c.deref-in-Err.ensures.value c.take_all_at.ensures))
+    (after_refusal problem context lists entered x h c.args.entry.now qs c.in_ok-places.ensures k is_k (omega (arith, many, positive)) some_have.0 half some_have.1 c.take_all_at.new.lists.items (subst Q c.deref-in-Err.ensures.value c.take_all_at.ensures))

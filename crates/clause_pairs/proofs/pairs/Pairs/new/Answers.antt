@@ -13,4 +13,4 @@ returns c e =
     let many = ap length same in
     let le : length problem.clauses ≤ c.loop-clause.clause-index = omega (arith, many, c.loop-clause-test.false) in
     let none : places_of c.in_ok-vec.field-0.items ≡ [] ∷ [] = rw c.in_ok-vec.ensures.items (ap (λ (z : List ClausePlace). z ∷ []) c.new-none.ensures.items) in
-    start_pairs problem e _ (c.loop-clause.invariant ∙ ap all_empty (take_all c.loop-clause.clause-index problem.clauses le)) none
+    start_pairs problem e _ (c.loop-clause.invariant ∙ ap all_empty (take_all c.loop-clause.clause-index problem.clauses le)) none c.in_ok-new.ensures
