@@ -1,7 +1,6 @@
 -- A ground literal may be asserted exactly where no entry fixes its atom.
 use Rattle.std.proofs.Common.{◌≡◌, ℕ, ◌↔◌, Bool, true, false, not, inl, inr, refl}
 use Rattle.std.specs.Prelude.{IsTrue}
-use Rattle.me_terms.specs.Terms.{AtomValue}
 use Rattle.me_terms.specs.Variables.{are_ground}
 use Rattle.me_terms.specs.Context.{Context, IsContext}
 use Rattle.me_terms.specs.declared.entry.Kind.TheVariants.{Universal}

@@ -1,2 +1,3 @@
 pub mod Owed
 mod Fixed
+pub mod Looked

@@ -1,5 +1,6 @@
 -- What a clause's unifier asserts, against what is measured of it, and against rule Assert.
-use Rattle.std.proofs.Common.{◌≡◌, ℕ, zero, suc, ◌<◌, length, arith, ◌||◌, ◌++◌, Bool, cond, List, [], ◌∷◌, map, take, drop, slice_get, Option, Some, None, IfSome, IfNone, refl, sym, subst, ap, ◌∙◌}
+use Rattle.std.proofs.Common.{◌≡◌, ℕ, zero, suc, ◌<◌, length, arith, ◌||◌, Bool, cond, List, [], ◌∷◌, map, take, drop, slice_get, Option, Some, None, IfSome, IfNone, refl, sym, subst, ap, ◌∙◌}
+use Rattle.std.specs.Prelude.{Result, Ok, Err, IfOk}
 use Rattle.std.specs.List.{list_all}
 use Rattle.std.proofs.lemmas.List.{take-append-drop}
 use Rattle.std.proofs.lemmas.List.Folds.{list_all-append, list_all-map}
@@ -8,12 +9,11 @@ use Rattle.me_terms.specs.Variables.{are_ground}
 use Rattle.me_terms.specs.Measures.{capped, literal_weight, canonical_literal}
 use Rattle.me_terms.specs.Values.{ProblemValue, ClauseValue, EntryValue, Asserted}
 use Rattle.me_terms.specs.Context.{Context}
-use Rattle.me_terms.specs.Contradictory.{IsContradictory}
 use Rattle.me_terms.specs.Positions.{ClauseAt, positions_of, entry_at, AreOpposite}
 use Rattle.me_terms.specs.Unifier.{IsUnifier, IsContextUnifier, unified}
 use Rattle.me_terms.specs.Fits.{Fits}
 use Rattle.me_terms.specs.Validity.{IsLawful}
-use Rattle.me_terms.specs.Assert.{uses_universal, asserted_kind, MayAssert, asserted_entry, IsAssert}
+use Rattle.me_terms.specs.Assert.{uses_universal, asserted_kind, asserted_entry, IsAssert}
 use Rattle.me_terms.specs.Order.{pattern_weight}
 use Rattle.me_terms.specs.declared.bounds.Bounds.{Bounds}
 use Rattle.me_terms.specs.declared.entry.Kind.{Kind}
@@ -156,3 +156,7 @@ some_map (Some x) P Q f h = f x h
 pub none_map : {A : Type 0} (o : Option A) (P Q : Type 0) → (P → Q) → IfNone o P → IfNone o Q
 none_map None P Q f h = f h
 none_map (Some x) P Q f h = tt
+
+pub if_none_map : {A E : Type 0} (r : Result (Option A) E) (P Q : Type 0) → (P → Q) → IfOk r (λ o. IfNone o P) → IfOk r (λ o. IfNone o Q)
+if_none_map (Ok o) P Q f h = none_map o P Q f h
+if_none_map (Err x) P Q f h = tt

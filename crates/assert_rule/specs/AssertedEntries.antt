@@ -1,10 +1,11 @@
 -- Which entries a clause asserts.
 use Rattle.std.specs.Prelude.{◌≡◌, ℕ, ◌⊎◌, List, [], slice_get, Some}
+use Rattle.std.specs.List.{Contains}
 use Rattle.me_terms.specs.Terms.{AtomValue}
 use Rattle.me_terms.specs.Substitutions.{Family, Generalizes, IsVariant}
 use Rattle.me_terms.specs.Measures.{canonical_literal}
 use Rattle.me_terms.specs.Values.{ProblemValue, ClauseValue, EntryValue}
-use Rattle.me_terms.specs.Context.{Context, IsVisible}
+use Rattle.me_terms.specs.Context.{Context, StandsAt, IsVisible}
 use Rattle.me_terms.specs.Contradictory.{IsContradictory}
 use Rattle.me_terms.specs.Positions.{ClauseAt}
 use Rattle.me_terms.specs.Unifier.{unified}
@@ -44,6 +45,14 @@ CoversAt context k l kind = (e : EntryValue) × IsVisible context k e × MakesNe
 -- At position k a Universal entry is visible, of either sign, that generalizes the atom.
 abbrev pub FixesAt : Context → ℕ → AtomValue → Type 0
 FixesAt context k a = (e : EntryValue) × IsVisible context k e × (e.kind ≡ Universal) × Generalizes e.atom (Of a)
+
+-- At position k an entry, hidden or not, has this very atom.
+abbrev pub HasAtomAt : Context → ℕ → AtomValue → Type 0
+HasAtomAt context k a = (e : EntryValue) × StandsAt context k e × (e.atom ≡ Of a)
+
+-- P holds of one of the positions.
+abbrev pub HoldsAmong : (ℕ → Type 0) → List ℕ → Type 0
+HoldsAmong P ks = (k : ℕ) × Contains ks k × P k
 
 -- The literal may be asserted with this kind, as far as the entries of the context say.
 pub record MayBeAsserted (context : Context) (l : Literal) (kind : Kind) : Type 0 where

@@ -5,6 +5,7 @@ ghost use Rattle.me_terms.specs.Values.{ProblemValue, EntryValue};
 ghost use Rattle.me_terms.specs.Positions.{ClauseAt, positions_of, AreOpposite};
 ghost use Rattle.me_terms.specs.Validity.{IsLawful};
 ghost use Rattle.me_terms.specs.Assert.{IsAssert};
+ghost use Rattle.literal_index.specs.Index.{IsIndex};
 ghost use Rattle.assert_rule.specs.AssertOrder.{IsBeforeBest, ComesBeforeBest};
 ghost use Rattle.assert_rule.specs.AssertedEntries.{Asserts, AssertsBy};
 
@@ -12,6 +13,7 @@ use crate::candidate::Candidate;
 use crate::covering::is_new;
 use crate::ranks::kind_of;
 use joint_unifiers::{Unifier, joint_unifier};
+use literal_index::Index;
 use me_terms::{Bounds, Clause, Entry, Kind, Tuple, View};
 use std::alloc::{AllocError, Global};
 
@@ -33,11 +35,13 @@ fn assert_by<V: View>(
     index: u32,
     place: u32,
     view: &V,
+    entries: Option<&Index>,
     bounds: &Bounds,
     best: Option<&Candidate>,
 ) -> Result<Option<Candidate>, AllocError>
     requires place { place < length unifier.now.literals }
     requires bounds { IsLawful bounds.now }
+    requires index { IfSome entries (λ index. IsIndex (V.context view.now) index.now) }
     ensures some { IfOk result (λ r. IfSome r (AssertsBy unifier.now bounds.now (V.context view.now) index place)) }
     ensures before { IfOk result (λ r. IfSome r (λ e. ComesBeforeBest e (option_copied best.entry))) }
     ensures none { IfOk result (λ r. IfNone r ((e : EntryValue) → AssertsBy unifier.now bounds.now (V.context view.now) index place e → ¬ ComesBeforeBest e (option_copied best.entry))) }
@@ -55,11 +59,39 @@ fn assert_by<V: View>(
         return Ok(None);
     }
     let literal = unifier.literal(place)?;
-    if !is_new(alloc, view, &literal, kind)? {
+    if !is_new(alloc, view, entries, &literal, kind)? {
         return Ok(None);
     }
     let tuple = tuple.again(alloc)?;
     Ok(Some(Candidate::new(literal, kind, weight, index, place, tuple)))
+}
+
+/// The entry that the clause asserts by the place and the tuple, as `assert_before` says. Where the index of
+/// the view's entries is at hand, a ground literal is looked up in it.
+fn assert_with<V: View>(
+    alloc: Global,
+    clause: &Clause,
+    index: u32,
+    place: u32,
+    tuple: &Tuple,
+    view: &V,
+    entries: Option<&Index>,
+    bounds: &Bounds,
+    best: Option<&Candidate>,
+) -> Result<Option<Candidate>, AllocError>
+    requires place { place < length clause.now.literals }
+    requires opposite { AreOpposite (V.context view.now) clause.now.literals (positions_of (Some place) tuple.now.items) }
+    requires few { length clause.now.literals < 2 ^ 32 - 1 }
+    requires bounds { IsLawful bounds.now }
+    requires index { IfSome entries (λ listed. IsIndex (V.context view.now) listed.now) }
+    ensures some { IfOk result (λ r. IfSome r (Asserts bounds.now (V.context view.now) clause.now index place tuple.now.items)) }
+    ensures before { IfOk result (λ r. IfSome r (λ e. ComesBeforeBest e (option_copied best.entry))) }
+    ensures none { IfOk result (λ r. IfNone r ((problem : ProblemValue) (e : EntryValue) → ClauseAt problem index clause.now → IsAssert problem bounds.now (V.context view.now) index place tuple.now.items e → ¬ ComesBeforeBest e (option_copied best.entry))) }
+{
+    match joint_unifier(alloc, clause, Some(place), tuple, view)? {
+        Some(unifier) => Ok(assert_by(alloc, &unifier, index, place, view, entries, bounds, best)?),
+        None => Ok(None),
+    }
 }
 
 /// The entry that the clause, which stands at place `index` of a problem, asserts by the literal of that
@@ -85,10 +117,7 @@ pub fn assert_before<V: View>(
     ensures before { IfOk result (λ r. IfSome r (λ e. ComesBeforeBest e (option_copied best.entry))) }
     ensures none { IfOk result (λ r. IfNone r ((problem : ProblemValue) (e : EntryValue) → ClauseAt problem index clause.now → IsAssert problem bounds.now (V.context view.now) index place tuple.now.items e → ¬ ComesBeforeBest e (option_copied best.entry))) }
 {
-    match joint_unifier(alloc, clause, Some(place), tuple, view)? {
-        Some(unifier) => Ok(assert_by(alloc, &unifier, index, place, view, bounds, best)?),
-        None => Ok(None),
-    }
+    assert_with(alloc, clause, index, place, tuple, view, None, bounds, best)
 }
 
 /// The entry that the clause, which stands at place `index` of a problem, asserts by the literal of that
@@ -115,4 +144,37 @@ pub fn assert_of<V: View>(
         Some(candidate) => Ok(Some(candidate.into_entry())),
         None => Ok(None),
     }
+}
+
+/// The entry of `assert_of` with its weight. The index of the view's entries is asked whether they have a
+/// ground literal already.
+pub fn candidate_of<V: View>(
+    alloc: Global,
+    clause: &Clause,
+    index: u32,
+    place: u32,
+    tuple: &Tuple,
+    view: &V,
+    entries: &Index,
+    bounds: &Bounds,
+) -> Result<Option<Candidate>, AllocError>
+    requires place { place < length clause.now.literals }
+    requires opposite { AreOpposite (V.context view.now) clause.now.literals (positions_of (Some place) tuple.now.items) }
+    requires few { length clause.now.literals < 2 ^ 32 - 1 }
+    requires bounds { IsLawful bounds.now }
+    requires index { IsIndex (V.context view.now) entries.now }
+    ensures some { IfOk result (λ r. IfSome r (Asserts bounds.now (V.context view.now) clause.now index place tuple.now.items)) }
+    ensures none { IfOk result (λ r. IfNone r ((problem : ProblemValue) (e : EntryValue) → ClauseAt problem index clause.now → ¬ IsAssert problem bounds.now (V.context view.now) index place tuple.now.items e)) }
+{
+    assert_with(
+        alloc,
+        clause,
+        index,
+        place,
+        tuple,
+        view,
+        Some(entries),
+        bounds,
+        None,
+    )
 }

@@ -7,7 +7,8 @@
 mod asserting;
 mod candidate;
 mod covering;
+mod lookup;
 mod ranks;
 
-pub use asserting::{assert_before, assert_of};
+pub use asserting::{assert_before, assert_of, candidate_of};
 pub use candidate::Candidate;

@@ -1,16 +1,9 @@
-use Rattle.std.proofs.Common.{◌≡◌, ℕ, Bool, true, false, List, [], length, slice_get, Some, Option, refl, sym, subst, ap, ◌∙◌, arith}
+use Rattle.std.proofs.Common.{◌≡◌, ℕ, true, List, [], length, sym, subst, ap, ◌∙◌}
 use Rattle.std.specs.Option.{option_copied}
 use Rattle.std.proofs.lemmas.Bool.{eqb-true}
-use Rattle.me_terms.specs.Measures.{capped, literal_weight, canonical_literal}
 use Rattle.me_terms.specs.Values.{EntryValue}
-use Rattle.me_terms.specs.Positions.{positions_of}
 use Rattle.me_terms.specs.Unifier.{unified}
-use Rattle.me_terms.specs.Fits.{Fits}
-use Rattle.me_terms.specs.Assert.{asserted_kind}
-use Rattle.me_terms.specs.declared.atom.Literal.{Literal}
-use Rattle.joint_unifiers.proofs.Fitting.{fitting_weight}
-use Rattle.joint_unifiers.proofs.CanonicalMeasures.{canonical_weight}
-use Rattle.assert_rule.specs.AssertOrder.{IsBeforeBest, ComesBeforeBest}
+use Rattle.assert_rule.specs.AssertOrder.{IsBeforeBest}
 use Rattle.assert_rule.specs.AssertedEntries.{AssertsBy}
 use Rattle.assert_rule.proofs.Owed.{at_within, kind_is, weight_is, none_left, must_fit, must_be_before, must_be_new, written, asserted}
 use Rattle.assert_rule.proofs.asserting.assert_by.Goals as goal

@@ -1,4 +1,4 @@
-use Rattle.std.proofs.Common.{◌≡◌, ℕ, Option, Some, IfSome, IfNone, subst}
+use Rattle.std.proofs.Common.{Option, Some, IfSome, subst}
 use Rattle.std.specs.Option.{option_copied}
 use Rattle.me_terms.specs.Values.{ProblemValue, EntryValue}
 use Rattle.me_terms.specs.Positions.{ClauseAt}
@@ -7,7 +7,7 @@ use Rattle.joint_unifiers.specs.ClauseUnifiers.{UnifierValue, IsUnifierOf}
 use Rattle.assert_rule.specs.AssertOrder.{ComesBeforeBest}
 use Rattle.assert_rule.specs.AssertedEntries.{Asserts, AssertsBy}
 use Rattle.assert_rule.proofs.Owed.{asserts_of, of_asserts, some_map, none_map}
-use Rattle.assert_rule.proofs.asserting.assert_before.Goals as goal
+use Rattle.assert_rule.proofs.asserting.assert_with.Goals as goal
 
 pub returns-in_ok-assert_by-in-Some-clause-some : goal.returns-in_ok-assert_by-in-Some-clause-some
 returns-in_ok-assert_by-in-Some-clause-some g c =
