@@ -5,11 +5,13 @@ ghost use Rattle.me_terms.specs.Values.{EntryValue, ProblemValue};
 ghost use Rattle.me_terms.specs.Assert.{IsAssert, HasAssert};
 ghost use Rattle.me_terms.specs.Order.{kind_rank, IsLeastAssert};
 ghost use Rattle.me_terms.specs.Positions.{ClauseAt};
+ghost use Rattle.literal_index.specs.Index.{IsIndex};
 ghost use Rattle.kept_asserts.specs.Held.{HoldsAsserts, IsAssertOf, HasRank};
 
 use crate::opposing::are_opposite;
-use assert_rule::{Candidate, assert_before};
+use assert_rule::{Candidate, candidate_of};
 use candidate_keys::{AssertKey, Asserts};
+use literal_index::Index;
 use me_terms::{Bounds, Clause, Entry, Kind, Problem, Tuple, View};
 use std::alloc::{AllocError, Global};
 
@@ -38,18 +40,20 @@ fn assert_of_clause<V: View>(
     place: u32,
     tuple: &Tuple,
     view: &V,
+    entries: &Index,
     bounds: &Bounds,
 ) -> Result<Option<Candidate>, AllocError>
     requires place { place < length clause.now.literals }
     requires few { length clause.now.literals < 2 ^ 32 - 1 }
     requires bounds { IsLawful bounds.now }
+    requires index { IsIndex (V.context view.now) entries.now }
     ensures some { IfOk result (λ r. IfSome r (λ e. (problem : ProblemValue) → ClauseAt problem index clause.now → IsAssert problem bounds.now (V.context view.now) index place tuple.now.items e)) }
     ensures none { IfOk result (λ r. IfNone r ((problem : ProblemValue) (e : EntryValue) → ClauseAt problem index clause.now → ¬ IsAssert problem bounds.now (V.context view.now) index place tuple.now.items e)) }
 {
     if !are_opposite(view, clause.literals.as_slice(), Some(place), tuple) {
         return Ok(None);
     }
-    assert_before(alloc, clause, index, place, tuple, view, bounds, None)
+    candidate_of(alloc, clause, index, place, tuple, view, entries, bounds)
 }
 
 /// The Assert of the clause, place and tuple, if there is one.
@@ -58,10 +62,12 @@ fn assert_of<V: View>(
     problem: &Problem,
     key: &AssertKey,
     view: &V,
+    entries: &Index,
     bounds: &Bounds,
 ) -> Result<Option<Candidate>, AllocError>
     requires valid { IsValid problem.now }
     requires bounds { IsLawful bounds.now }
+    requires index { IsIndex (V.context view.now) entries.now }
     ensures some { IfOk result (λ r. IfSome r (IsAssert problem.now bounds.now (V.context view.now) key.now.clause key.now.place key.now.tuple)) }
     ensures none { IfOk result (λ r. IfNone r ((e : EntryValue) → IsAssert problem.now bounds.now (V.context view.now) key.now.clause key.now.place key.now.tuple e → ⊥)) }
 {
@@ -72,7 +78,7 @@ fn assert_of<V: View>(
         return Ok(None);
     }
     assert_of_clause(
-        alloc, clause, key.clause, key.place, &key.tuple, view, bounds,
+        alloc, clause, key.clause, key.place, &key.tuple, view, entries, bounds,
     )
 }
 
@@ -82,14 +88,16 @@ fn entry_of<V: View>(
     problem: &Problem,
     key: &AssertKey,
     view: &V,
+    entries: &Index,
     bounds: &Bounds,
 ) -> Result<Option<Entry>, AllocError>
     requires valid { IsValid problem.now }
     requires bounds { IsLawful bounds.now }
+    requires index { IsIndex (V.context view.now) entries.now }
     ensures some { IfOk result (λ r. IfSome r (λ e. IsAssertOf problem.now bounds.now (V.context view.now) key.now e)) }
     ensures none { IfOk result (λ r. IfNone r ((e : EntryValue) → ¬ IsAssertOf problem.now bounds.now (V.context view.now) key.now e)) }
 {
-    let Some(candidate) = assert_of(alloc, problem, key, view, bounds)? else {
+    let Some(candidate) = assert_of(alloc, problem, key, view, entries, bounds)? else {
         return Ok(None);
     };
     if has_rank(&candidate, key) {
@@ -98,24 +106,26 @@ fn entry_of<V: View>(
     Ok(None)
 }
 
-/// The entry of the least Assert of the context. The keys before its own are taken out, since they are of no
-/// Assert any more.
+/// The entry of the least Assert of the context, whose entries are in the index. The keys before its own are
+/// taken out, since they are of no Assert any more.
 pub fn least_assert<V: View>(
     alloc: Global,
     problem: &Problem,
     asserts: &mut Asserts,
     view: &V,
+    entries: &Index,
     bounds: &Bounds,
 ) -> Result<Option<Entry>, AllocError>
     requires valid { IsValid problem.now }
     requires bounds { IsLawful bounds.now }
+    requires index { IsIndex (V.context view.now) entries.now }
     requires all { HoldsAsserts problem.now bounds.now (V.context view.now) asserts.old }
     ensures some { IfOk result (λ r. IfSome r (IsLeastAssert problem.now bounds.now (V.context view.now))) }
     ensures none { IfOk result (λ r. IfNone r (HasAssert problem.now bounds.now (V.context view.now) → ⊥)) }
     ensures kept { OnOk result (HoldsAsserts problem.now bounds.now (V.context view.now) asserts.new) }
 {
     'keys: while let Some(k) = asserts.least() {
-        if let Some(entry) = entry_of(alloc, problem, asserts.at(k), view, bounds)? {
+        if let Some(entry) = entry_of(alloc, problem, asserts.at(k), view, entries, bounds)? {
             return Ok(Some(entry));
         }
         asserts.take(k);
