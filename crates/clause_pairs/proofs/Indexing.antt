@@ -1,5 +1,5 @@
 -- The index of a problem's literals as it is made, literal by literal and clause by clause.
-use Rattle.std.proofs.Common.{◌≡◌, ℕ, ◌+◌, ◌⊎◌, ◌↔◌, inl, inr, Bool, true, false, Option, List, [], length, slice_get, Some, None, refl, sym, ap, subst, ◌∙◌}
+use Rattle.std.proofs.Common.{◌≡◌, ℕ, ◌+◌, ◌↔◌, Bool, true, false, List, [], length, slice_get, Some, None, refl, sym, subst, ◌∙◌}
 use Rattle.std.specs.List.{Contains, position}
 use Rattle.std.proofs.lemmas.Option.{same_Some}
 use Rattle.me_terms.specs.Terms.{AtomValue}
@@ -9,7 +9,7 @@ use Rattle.me_terms.specs.Values.{ProblemValue, ClauseValue}
 use Rattle.me_terms.specs.Positions.{ClauseAt}
 use Rattle.me_terms.specs.declared.atom.Literal.{Literal}
 use Rattle.clause_pairs.specs.declared.clause_place.ClausePlace.{ClausePlace}
-use Rattle.clause_pairs.specs.Filed.{BySignValue, Files}
+use Rattle.clause_pairs.specs.Filed.{Files}
 use Rattle.clause_pairs.specs.Index.{IndexValue, IsGroundAtomOf, KnowsGround, HasPredicate, IsNongroundOf, HasAtom, IsIndex, FilesBy, FilesLiteral, FilesClause}
 use Rattle.clause_pairs.proofs.Filing.{files_by, files_none, FilesFirst, files_start, files_more, files_all, AreFiledTo, filed_start, filed_more, filed_all}
 use Rattle.clause_pairs.proofs.GroundAtoms.{found_contains, not_found}

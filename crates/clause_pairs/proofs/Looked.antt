@@ -6,9 +6,7 @@ use Rattle.std.proofs.lemmas.Option.{same_Some}
 use Rattle.std.proofs.lemmas.List.Elements.{Contains-append_left, Contains-push, Contains-push_cases}
 use Rattle.me_terms.specs.Terms.{Var, AtomValue}
 use Rattle.me_terms.specs.TermEquality.{same_atom}
-use Rattle.me_terms.specs.TermEqualityLaws.{same_atom_itself}
 use Rattle.me_terms.specs.Contradictory.{Unifiable}
-use Rattle.me_terms.specs.Substitutions.{IsInstance, apply_atom}
 use Rattle.me_terms.specs.Variables.{are_ground}
 use Rattle.me_terms.specs.Values.{ProblemValue, EntryValue}
 use Rattle.me_terms.specs.declared.atom.Literal.{Literal}
@@ -19,7 +17,7 @@ use Rattle.me_laws_increments.specs.Pairs.{IsPair}
 use Rattle.clause_pairs.specs.declared.clause_place.ClausePlace.{ClausePlace}
 use Rattle.clause_pairs.specs.Filed.{filed}
 use Rattle.clause_pairs.specs.Index.{IndexValue, IsIndex}
-use Rattle.clause_pairs.specs.Meetings.{LiteralAt, HasLiteralAt, IsAgainst, AddsPlaces}
+use Rattle.clause_pairs.specs.Meetings.{HasLiteralAt, IsAgainst, AddsPlaces}
 use Rattle.clause_pairs.proofs.GroundAtoms.{found_atom, found_contains}
 use Rattle.clause_pairs.proofs.Meets.{ground_meets}
 

@@ -1,6 +1,5 @@
 -- Places of literals by a number and a sign.
 use Rattle.std.specs.Prelude.{◌≡◌, ℕ, Bool, true, false, List, [], ◌∷◌, ◌++◌, slice_index_or}
-use Rattle.std.specs.List.{Contains}
 use Rattle.clause_pairs.specs.declared.clause_place.ClausePlace.{ClausePlace}
 
 -- The places of a number.

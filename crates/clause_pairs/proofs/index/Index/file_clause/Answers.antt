@@ -5,7 +5,7 @@ use Rattle.me_terms.specs.Terms.{AtomValue}
 use Rattle.me_terms.specs.Values.{ClauseValue}
 use Rattle.me_terms.specs.Variables.{are_ground}
 use Rattle.me_terms.specs.declared.atom.Literal.{Literal}
-use Rattle.clause_pairs.proofs.Indexing.{clause_start, clause_step, clause_end}
+use Rattle.clause_pairs.proofs.Indexing.{clause_step, clause_end}
 use Rattle.clause_pairs.proofs.index.Index.file_clause.Goals as goal
 
 pub file_literal-requires : goal.file_literal-requires

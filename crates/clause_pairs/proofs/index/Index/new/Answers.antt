@@ -1,6 +1,6 @@
 use Rattle.std.proofs.Common.{◌≡◌, length, arith}
 use Rattle.clause_pairs.proofs.Against.{clause_read, all_read}
-use Rattle.clause_pairs.proofs.Indexing.{index_start, index_step, index_end, knows_clause}
+use Rattle.clause_pairs.proofs.Indexing.{index_step, index_end, knows_clause}
 use Rattle.clause_pairs.proofs.index.Index.new.Goals as goal
 
 pub file_clause-requires-clause-atoms : goal.file_clause-requires-clause-atoms
