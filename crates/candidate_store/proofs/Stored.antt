@@ -7,8 +7,8 @@ use Rattle.me_terms.specs.Values.{ProblemValue, EntryValue}
 use Rattle.me_terms.specs.Context.{Context, add}
 use Rattle.me_terms.specs.Next.{NextValue, IsNext}
 use Rattle.me_terms.specs.declared.bounds.Bounds.{Bounds}
-use Rattle.entry_hiding.specs.Values.{HidingValue}
-use Rattle.entry_hiding.specs.Hiding.{IsHidingOf}
+use Rattle.candidate_store.specs.Notes.{NotesValue, AreNotes}
+use Rattle.literal_index.specs.Index.{IsIndex}
 use Rattle.clause_pairs.specs.Values.{PairsValue}
 use Rattle.clause_pairs.specs.Pairs.{ArePairs}
 use Rattle.candidate_keys.specs.Keys.{AssertKeyValue}
@@ -42,7 +42,7 @@ any_err (Err e) P h = h
 pub noted_beside : (problem : ProblemValue) (context noted : Context) (old new : StoreValue) → IsKept problem context old → IsNoted problem noted old new → IsBeside problem context noted new
 noted_beside problem context noted old new kept h =
     let P : StoreValue → Type 0 = λ z. IsBeside problem context noted z in
-    subst P (sym h.rest) (record { some = kept.some; hiding = h.hiding; pairs = h.pairs; frames = kept.frames; asserts = kept.asserts })
+    subst P (sym h.rest) (record { some = kept.some; notes = h.notes; pairs = h.pairs; frames = kept.frames; asserts = kept.asserts })
 
 pub noted_frames : (problem : ProblemValue) (noted : Context) (old new : StoreValue) → IsNoted problem noted old new → new.frames ≡ old.frames
 noted_frames problem noted old new h = ap (λ (z : StoreValue). z.frames) h.rest
@@ -52,26 +52,26 @@ noted_bounds problem noted old new h = ap (λ (z : StoreValue). z.bounds) h.rest
 
 -- ---- its frame is put to the others
 pub frame_put : (problem : ProblemValue) (context : Context) (e : EntryValue) (old new : StoreValue) (f : FrameValue) → IsBeside problem context (add context e) old → IsFrame problem old.bounds (add context e) (old.frames ++ f ∷ []) f
-    → new.hiding ≡ old.hiding → new.pairs ≡ old.pairs → new.bounds ≡ old.bounds → new.frames ≡ old.frames ++ f ∷ [] → (new.is_fresh ≡ true → AreAsserts problem (add context e) new) → IsKept problem (add context e) new
-frame_put problem context e old new f h frame hiding pairs bounds frames asserts =
-    let P : HidingValue → Type 0 = λ z. IsHidingOf (add context e) z in
+    → new.notes ≡ old.notes → new.pairs ≡ old.pairs → new.bounds ≡ old.bounds → new.frames ≡ old.frames ++ f ∷ [] → (new.is_fresh ≡ true → AreAsserts problem (add context e) new) → IsKept problem (add context e) new
+frame_put problem context e old new f h frame notes pairs bounds frames asserts =
+    let P : NotesValue → Type 0 = λ z. AreNotes (add context e) z in
     let Q : PairsValue → Type 0 = λ z. ArePairs problem (add context e) z in
     let R : Bounds × List FrameValue → Type 0 = λ z. AreFrames problem z.0 (add context e) z.1 in
     let a = sym bounds in
     let b = sym frames in
     record {
       some = (let l = length_push context e in omega (arith, l));
-      hiding = subst P (sym hiding) h.hiding;
+      notes = subst P (sym notes) h.notes;
       pairs = subst Q (sym pairs) h.pairs;
       frames = subst R (λ i. (a i, b i)) (frames_more problem old.bounds context e old.frames f h.frames frame);
       asserts = asserts;
     }
 
 -- ---- the last entry is forgotten
-pub without_asserts : (problem : ProblemValue) (context : Context) (s : StoreValue) → 0 < length context → IsHidingOf context s.hiding → ArePairs problem context s.pairs → AreFrames problem s.bounds context s.frames → s.is_fresh ≡ false → IsKept problem context s
-without_asserts problem context s some hiding pairs frames stale = record {
+pub without_asserts : (problem : ProblemValue) (context : Context) (s : StoreValue) → 0 < length context → AreNotes context s.notes → ArePairs problem context s.pairs → AreFrames problem s.bounds context s.frames → s.is_fresh ≡ false → IsKept problem context s
+without_asserts problem context s some notes pairs frames stale = record {
   some = some;
-  hiding = hiding;
+  notes = notes;
   pairs = pairs;
   frames = frames;
   asserts = λ fresh. absurd (let e : true ≡ false = sym fresh ∙ stale in cc e);
@@ -84,25 +84,25 @@ left_frames problem bounds context e old new f is h =
     frames_less problem bounds context e new f (subst P is h)
 
 -- what there is to forget, where there are two entries
-pub some_left : (problem : ProblemValue) (context : Context) (s : StoreValue) (most : ℕ) → IsKept problem context s → 1 < length s.frames → length context ≤ most → (before : Context) × (e : EntryValue) × IsHidingOf (add before e) s.hiding × ArePairs problem (add before e) s.pairs × (0 < length before) × (length before ≤ most)
+pub some_left : (problem : ProblemValue) (context : Context) (s : StoreValue) (most : ℕ) → IsKept problem context s → 1 < length s.frames → length context ≤ most → (before : Context) × (e : EntryValue) × AreNotes (add before e) s.notes × ArePairs problem (add before e) s.pairs × (0 < length before) × (length before ≤ most)
 some_left problem context s most h two few =
     let each = h.frames.each in
     let n = length context - 1 in
     let last = last_entry context n (omega (arith, two, each)) in
-    let P : Context → Type 0 = λ z. IsHidingOf z s.hiding in
+    let P : Context → Type 0 = λ z. AreNotes z s.notes in
     let Q : Context → Type 0 = λ z. ArePairs problem z s.pairs in
     let long = length-take-le n context (omega arith) in
-    (take n context, last.0, subst P last.1 h.hiding, subst Q last.1 h.pairs, omega (arith, long, two, each), omega (arith, long, few))
+    (take n context, last.0, subst P last.1 h.notes, subst Q last.1 h.pairs, omega (arith, long, two, each), omega (arith, long, few))
 
 -- ---- the calls of a store
 module _ (problem : ProblemValue) (whole : Context) (n : ℕ) (e : EntryValue) (at : slice_get whole n ≡ Some e) where
   -- what is noted is of one entry more
-  pub noted : (old new : StoreValue) → n ≡ length old.frames → IsHidingOf (add (take n whole) e) new.hiding → ArePairs problem (add (take n whole) e) new.pairs → new ≡ record old { hiding = new.hiding; pairs = new.pairs } → IsNoted problem (take (length old.frames + 1) whole) old new
-  noted old new is_n hiding pairs rest =
+  pub noted : (old new : StoreValue) → n ≡ length old.frames → AreNotes (add (take n whole) e) new.notes → ArePairs problem (add (take n whole) e) new.pairs → new ≡ record old { notes = new.notes; pairs = new.pairs } → IsNoted problem (take (length old.frames + 1) whole) old new
+  noted old new is_n notes pairs rest =
       let same : add (take n whole) e ≡ take (length old.frames + 1) whole = sym (front_more whole n e at) ∙ ap (λ z. take (z + 1) whole) is_n in
-      let P : Context → Type 0 = λ z. IsHidingOf z new.hiding in
+      let P : Context → Type 0 = λ z. AreNotes z new.notes in
       let Q : Context → Type 0 = λ z. ArePairs problem z new.pairs in
-      record { hiding = subst P same hiding; pairs = subst Q same pairs; rest = rest }
+      record { notes = subst P same notes; pairs = subst Q same pairs; rest = rest }
 
 -- the store stands for an entry more
 pub entered : (problem : ProblemValue) (bounds : Bounds) (whole : Context) (old noted_one new : StoreValue) → StandsFor problem bounds (take (length old.frames) whole) old → IsNoted problem (take (length old.frames + 1) whole) old noted_one → new.bounds ≡ noted_one.bounds → IsKept problem (take (length noted_one.frames + 1) whole) new → StandsFor problem bounds (take (length old.frames + 1) whole) new
@@ -113,18 +113,18 @@ entered problem bounds whole old noted_one new stands noted_is same kept =
 
 -- what was noted is forgotten
 pub forgotten : (problem : ProblemValue) (bounds : Bounds) (whole : Context) (e : EntryValue) (old noted_one refused new : StoreValue) → slice_get whole (length old.frames) ≡ Some e → StandsFor problem bounds (take (length old.frames) whole) old → IsNoted problem (take (length old.frames + 1) whole) old noted_one
-    → refused.hiding ≡ noted_one.hiding → refused.pairs ≡ noted_one.pairs → refused.frames ≡ noted_one.frames → refused.bounds ≡ noted_one.bounds
-    → ((context : Context) (x : EntryValue) → IsHidingOf (add context x) refused.hiding → IsHidingOf context new.hiding)
+    → refused.notes ≡ noted_one.notes → refused.pairs ≡ noted_one.pairs → refused.frames ≡ noted_one.frames → refused.bounds ≡ noted_one.bounds
+    → ((context : Context) (x : EntryValue) → AreNotes (add context x) refused.notes → AreNotes context new.notes)
     → ((p : ProblemValue) (context : Context) (x : EntryValue) → ArePairs p (add context x) refused.pairs → 0 < length context → ArePairs p context new.pairs)
     → new.frames ≡ refused.frames → new.bounds ≡ refused.bounds → new.is_fresh ≡ false → StandsFor problem bounds (take (length old.frames) whole) new
 forgotten problem bounds whole e old noted_one refused new at stands noted_is a b c d hides pairs frames same stale =
     let context = take (length old.frames) whole in
     let whole_is = front_more whole (length old.frames) e at in
-    let P : Context × HidingValue → Type 0 = λ z. IsHidingOf z.0 z.1 in
+    let P : Context × NotesValue → Type 0 = λ z. AreNotes z.0 z.1 in
     let Q : Context × PairsValue → Type 0 = λ z. ArePairs problem z.0 z.1 in
     let a2 = sym a in
     let b2 = sym b in
-    let hiding = hides context e (subst P (λ i. (whole_is i, a2 i)) noted_is.hiding) in
+    let notes = hides context e (subst P (λ i. (whole_is i, a2 i)) noted_is.notes) in
     let pairing = pairs problem context e (subst Q (λ i. (whole_is i, b2 i)) noted_is.pairs) stands.kept.some in
     let frames_are : new.frames ≡ old.frames = frames ∙ (c ∙ noted_frames problem (take (length old.frames + 1) whole) old noted_one noted_is) in
     let bounds_are : new.bounds ≡ old.bounds = same ∙ (d ∙ noted_bounds problem (take (length old.frames + 1) whole) old noted_one noted_is) in
@@ -133,37 +133,37 @@ forgotten problem bounds whole e old noted_one refused new at stands noted_is a 
     let y = sym frames_are in
     record {
       same_bounds = bounds_are ∙ stands.same_bounds;
-      kept = without_asserts problem context new stands.kept.some hiding pairing (subst R (λ i. (x i, y i)) stands.kept.frames) stale;
+      kept = without_asserts problem context new stands.kept.some notes pairing (subst R (λ i. (x i, y i)) stands.kept.frames) stale;
     }
 
 -- what there is to forget
 pub to_forget : (problem : ProblemValue) (bounds : Bounds) (whole : Context) (e : EntryValue) (old noted_one refused : StoreValue) (most : ℕ) → slice_get whole (length old.frames) ≡ Some e → StandsFor problem bounds (take (length old.frames) whole) old → IsNoted problem (take (length old.frames + 1) whole) old noted_one
-    → refused.hiding ≡ noted_one.hiding → refused.pairs ≡ noted_one.pairs → length whole ≤ most
-    → (p : ProblemValue) × (context : Context) × (x : EntryValue) × IsHidingOf (add context x) refused.hiding × ArePairs p (add context x) refused.pairs × (0 < length context) × (length context ≤ most)
+    → refused.notes ≡ noted_one.notes → refused.pairs ≡ noted_one.pairs → length whole ≤ most
+    → (p : ProblemValue) × (context : Context) × (x : EntryValue) × AreNotes (add context x) refused.notes × ArePairs p (add context x) refused.pairs × (0 < length context) × (length context ≤ most)
 to_forget problem bounds whole e old noted_one refused most at stands noted_is a b few =
     let context = take (length old.frames) whole in
     let whole_is = front_more whole (length old.frames) e at in
-    let P : Context × HidingValue → Type 0 = λ z. IsHidingOf z.0 z.1 in
+    let P : Context × NotesValue → Type 0 = λ z. AreNotes z.0 z.1 in
     let Q : Context × PairsValue → Type 0 = λ z. ArePairs problem z.0 z.1 in
     let a2 = sym a in
     let b2 = sym b in
     let lt = slice_get_within whole (length old.frames) e at in
     let long = length-take-le (length old.frames) whole (omega (arith, lt)) in
-    (problem, context, e, subst P (λ i. (whole_is i, a2 i)) noted_is.hiding, subst Q (λ i. (whole_is i, b2 i)) noted_is.pairs, stands.kept.some, omega (arith, long, lt, few))
+    (problem, context, e, subst P (λ i. (whole_is i, a2 i)) noted_is.notes, subst Q (λ i. (whole_is i, b2 i)) noted_is.pairs, stands.kept.some, omega (arith, long, lt, few))
 
 -- an entry is left
-pub left_one : (problem : ProblemValue) (bounds : Bounds) (context : Context) (e : EntryValue) (old new : StoreValue) (f : FrameValue) → StandsFor problem bounds (add context e) old → 0 < length context → IsHidingOf context new.hiding → ArePairs problem context new.pairs → old.frames ≡ new.frames ++ f ∷ [] → new.bounds ≡ old.bounds → new.is_fresh ≡ false → StandsFor problem bounds context new
-left_one problem bounds context e old new f stands some hiding pairs frames same stale =
+pub left_one : (problem : ProblemValue) (bounds : Bounds) (context : Context) (e : EntryValue) (old new : StoreValue) (f : FrameValue) → StandsFor problem bounds (add context e) old → 0 < length context → AreNotes context new.notes → ArePairs problem context new.pairs → old.frames ≡ new.frames ++ f ∷ [] → new.bounds ≡ old.bounds → new.is_fresh ≡ false → StandsFor problem bounds context new
+left_one problem bounds context e old new f stands some notes pairs frames same stale =
     let x = sym same in
     let R : Bounds → Type 0 = λ z. AreFrames problem z context new.frames in
     record {
       same_bounds = same ∙ stands.same_bounds;
-      kept = without_asserts problem context new some hiding pairs (subst R x (left_frames problem old.bounds context e old.frames new.frames f frames stands.kept.frames)) stale;
+      kept = without_asserts problem context new some notes pairs (subst R x (left_frames problem old.bounds context e old.frames new.frames f frames stands.kept.frames)) stale;
     }
 
 -- a frame that was found is kept
 pub frame_kept : (problem : ProblemValue) (whole : Context) (old found new : StoreValue) (f : FrameValue) → length old.frames < length whole → IsBeside problem (take (length old.frames) whole) (take (length old.frames + 1) whole) old → IsFrame problem old.bounds (take (length old.frames + 1) whole) (old.frames ++ f ∷ []) f
-    → found.hiding ≡ old.hiding → found.pairs ≡ old.pairs → found.frames ≡ old.frames → found.bounds ≡ old.bounds → (found.is_fresh ≡ true → AreAsserts problem (take (length old.frames + 1) whole) found) → new ≡ record found { frames = found.frames ++ f ∷ [] } → IsKept problem (take (length old.frames + 1) whole) new
+    → found.notes ≡ old.notes → found.pairs ≡ old.pairs → found.frames ≡ old.frames → found.bounds ≡ old.bounds → (found.is_fresh ≡ true → AreAsserts problem (take (length old.frames + 1) whole) found) → new ≡ record found { frames = found.frames ++ f ∷ [] } → IsKept problem (take (length old.frames + 1) whole) new
 frame_kept problem whole old found new f lt beside frame a b c d asserts is =
     let n = length old.frames in
     let e = entry_at whole n lt in
@@ -188,6 +188,9 @@ module _ (problem : ProblemValue) (bounds : Bounds) (whole prefix : Context) (fr
 
   pub prefix_pairs : (v : PairsValue) → ArePairs problem (take (length frames + 1) whole) v → ArePairs problem prefix v
   prefix_pairs v h = let P : Context → Type 0 = λ z. ArePairs problem z v in subst P (sym prefix_is) h
+
+  pub prefix_index : (v : NotesValue) → AreNotes (take (length frames + 1) whole) v → IsIndex prefix v.entries
+  prefix_index v h = let P : Context → Type 0 = λ z. IsIndex z v.entries in subst P (sym prefix_is) h.entries
 
   pub prefix_frames : AreFrames problem bounds (take (length frames) whole) frames → AreFrames problem bounds (take (length frames) prefix) frames
   prefix_frames h = let P : Context → Type 0 = λ z. AreFrames problem bounds z frames in subst P (sym prefix_front) h

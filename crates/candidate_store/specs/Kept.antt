@@ -13,12 +13,11 @@ use Rattle.me_terms.specs.Next.{NextValue, Close, Assert, Split, Exhausted, Boun
 use Rattle.me_terms.specs.declared.bounds.Bounds.{Bounds}
 use Rattle.me_terms.specs.declared.atom.Literal.{Literal}
 use Rattle.me_laws_increments.specs.Pivots.{IsPivot}
-use Rattle.entry_hiding.specs.Values.{HidingValue}
-use Rattle.entry_hiding.specs.Hiding.{IsHidingOf}
 use Rattle.clause_pairs.specs.Values.{PairsValue}
 use Rattle.clause_pairs.specs.Pairs.{ArePairs}
 use Rattle.candidate_keys.specs.Keys.{AssertKeyValue, UnifierKeyValue, unifier_code}
 use Rattle.kept_asserts.specs.Held.{HoldsAsserts}
+use Rattle.candidate_store.specs.Notes.{NotesValue, AreNotes}
 
 -- The key is of the clause and the tuple, and comes at or before each Split of them.
 pub record IsKeyOf (problem : ProblemValue) (bounds : Bounds) (context : Context) (c : ℕ) (tuple : List ℕ) (key : UnifierKeyValue) : Type 0 where
@@ -72,7 +71,7 @@ IsSettled problem bounds context is_fresh = (¬ HasClose problem context) × ((i
 -- What is kept of the first entries of a context.
 pub record StoreValue : Type 0 where
   pub bounds : Bounds
-  pub hiding : HidingValue
+  pub notes : NotesValue
   pub pairs : PairsValue
   pub asserts : List AssertKeyValue
   pub is_fresh : Bool
@@ -82,10 +81,10 @@ pub record StoreValue : Type 0 where
 abbrev pub AreAsserts : ProblemValue → Context → StoreValue → Type 0
 AreAsserts problem context s = HoldsAsserts problem s.bounds context s.asserts
 
--- What hiding and pairs have is of the second context, and all else of the first.
+-- What notes and pairs have is of the second context, and all else of the first.
 pub record IsBeside (problem : ProblemValue) (context noted : Context) (s : StoreValue) : Type 0 where
   pub some : 0 < length context
-  pub hiding : IsHidingOf noted s.hiding
+  pub notes : AreNotes noted s.notes
   pub pairs : ArePairs problem noted s.pairs
   pub frames : AreFrames problem s.bounds context s.frames
   pub asserts : s.is_fresh ≡ true → AreAsserts problem context s
@@ -94,11 +93,11 @@ pub record IsBeside (problem : ProblemValue) (context noted : Context) (s : Stor
 abbrev pub IsKept : ProblemValue → Context → StoreValue → Type 0
 IsKept problem context s = IsBeside problem context context s
 
--- Hiding and pairs are those of the context now, and all else is as before.
+-- Notes and pairs are those of the context now, and all else is as before.
 pub record IsNoted (problem : ProblemValue) (noted : Context) (old new : StoreValue) : Type 0 where
-  pub hiding : IsHidingOf noted new.hiding
+  pub notes : AreNotes noted new.notes
   pub pairs : ArePairs problem noted new.pairs
-  pub rest : new ≡ record old { hiding = new.hiding; pairs = new.pairs }
+  pub rest : new ≡ record old { notes = new.notes; pairs = new.pairs }
 
 -- The store stands for the context of the problem within the bounds.
 pub record StandsFor (problem : ProblemValue) (bounds : Bounds) (context : Context) (s : StoreValue) : Type 0 where

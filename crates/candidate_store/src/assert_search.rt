@@ -10,11 +10,12 @@ ghost use Rattle.me_terms.specs.AnswerViews.{next_value};
 ghost use Rattle.me_terms.specs.Order.{assert_key};
 ghost use Rattle.clause_pairs.specs.Pairs.{ArePairs};
 ghost use Rattle.candidate_keys.specs.Keys.{assert_code, HasCode};
+ghost use Rattle.literal_index.specs.Index.{IsIndex};
 ghost use Rattle.kept_asserts.specs.Held.{HoldsAsserts};
 ghost use Rattle.candidate_store.specs.Searches.{HoldsAssertsIn, ByPlace, ByClause, Beside, AssertsAt, WithPivot, Keeps, index_of};
 
 use crate::search::{Search, are_paired};
-use assert_rule::{Candidate, assert_before};
+use assert_rule::{Candidate, candidate_of};
 use candidate_keys::{AssertKey, Asserts};
 use clause_pairs::ClausePlace;
 use kept_asserts::least_assert;
@@ -70,18 +71,19 @@ impl<'a, V: View> Search<'a, V> {
         requires opposite { AreOpposite (V.context self.now.view.now) clause.now.literals (positions_of (Some place) tuple.now.items) }
         requires few { length clause.now.literals < 2 ^ 32 - 1 }
         requires bounds { IsLawful self.now.bounds.now }
+        requires index { IsIndex (V.context self.now.view.now) self.now.entries.now }
         ensures kept { OnOk result (Keeps asserts.old asserts.new) }
         ensures added { OnOk result ((e : EntryValue) → IsAssert self.now.problem.now self.now.bounds.now (V.context self.now.view.now) index place tuple.now.items e → HasCode asserts.new (assert_key index place tuple.now.items e)) }
     {
-        let found = assert_before(
+        let found = candidate_of(
             self.alloc,
             clause,
             index,
             place,
             tuple,
             self.view,
+            self.entries,
             self.bounds,
-            None,
         )?;
         let Some(candidate) = found else {
             return Ok(());
@@ -100,6 +102,7 @@ impl<'a, V: View> Search<'a, V> {
     ) -> Result<(), AllocError>
         requires valid { IsValid self.now.problem.now }
         requires bounds { IsLawful self.now.bounds.now }
+        requires index { IsIndex (V.context self.now.view.now) self.now.entries.now }
         requires pairs { ArePairs self.now.problem.now (V.context self.now.view.now) self.now.pairs.now }
         requires clause { index < length self.now.problem.now.clauses }
         ensures kept { OnOk result (Keeps asserts.old asserts.new) }
@@ -146,6 +149,7 @@ impl<'a, V: View> Search<'a, V> {
     ) -> Result<(), AllocError>
         requires valid { IsValid self.now.problem.now }
         requires bounds { IsLawful self.now.bounds.now }
+        requires index { IsIndex (V.context self.now.view.now) self.now.entries.now }
         requires pairs { ArePairs self.now.problem.now (V.context self.now.view.now) self.now.pairs.now }
         requires clause { at.clause < length self.now.problem.now.clauses }
         ensures kept { OnOk result (Keeps asserts.old asserts.new) }
@@ -171,6 +175,7 @@ impl<'a, V: View> Search<'a, V> {
     ) -> Result<(), AllocError>
         requires valid { IsValid self.now.problem.now }
         requires bounds { IsLawful self.now.bounds.now }
+        requires index { IsIndex (V.context self.now.view.now) self.now.entries.now }
         requires pairs { ArePairs self.now.problem.now (V.context self.now.view.now) self.now.pairs.now }
         requires clause { at.clause < length self.now.problem.now.clauses }
         ensures kept { OnOk result (Keeps asserts.old asserts.new) }
@@ -196,6 +201,7 @@ impl<'a, V: View> Search<'a, V> {
     ) -> Result<(), AllocError>
         requires valid { IsValid self.now.problem.now }
         requires bounds { IsLawful self.now.bounds.now }
+        requires index { IsIndex (V.context self.now.view.now) self.now.entries.now }
         requires pairs { ArePairs self.now.problem.now (V.context self.now.view.now) self.now.pairs.now }
         requires literal { 0 < pivot }
         requires within { pivot < length (V.context self.now.view.now) }
@@ -213,6 +219,7 @@ impl<'a, V: View> Search<'a, V> {
     fn add_asserts_of_clause(&self, index: u32, asserts: &mut Asserts) -> Result<(), AllocError>
         requires valid { IsValid self.now.problem.now }
         requires bounds { IsLawful self.now.bounds.now }
+        requires index { IsIndex (V.context self.now.view.now) self.now.entries.now }
         requires pairs { ArePairs self.now.problem.now (V.context self.now.view.now) self.now.pairs.now }
         requires clause { index < length self.now.problem.now.clauses }
         ensures kept { OnOk result (Keeps asserts.old asserts.new) }
@@ -230,6 +237,7 @@ impl<'a, V: View> Search<'a, V> {
     pub(crate) fn add_all_asserts(&self, asserts: &mut Asserts) -> Result<(), AllocError>
         requires valid { IsValid self.now.problem.now }
         requires bounds { IsLawful self.now.bounds.now }
+        requires index { IsIndex (V.context self.now.view.now) self.now.entries.now }
         requires pairs { ArePairs self.now.problem.now (V.context self.now.view.now) self.now.pairs.now }
         ensures { OnOk result (HoldsAsserts self.now.problem.now self.now.bounds.now (V.context self.now.view.now) asserts.new) }
     {
@@ -245,13 +253,21 @@ impl<'a, V: View> Search<'a, V> {
     pub(crate) fn assert_step(&self, asserts: &mut Asserts) -> Result<Option<Next>, AllocError>
         requires valid { IsValid self.now.problem.now }
         requires bounds { IsLawful self.now.bounds.now }
+        requires index { IsIndex (V.context self.now.view.now) self.now.entries.now }
         requires open { HasClose self.now.problem.now (V.context self.now.view.now) → ⊥ }
         requires all { HoldsAsserts self.now.problem.now self.now.bounds.now (V.context self.now.view.now) asserts.old }
         ensures some { IfOk result (λ r. IfSome r (λ next. IsNext self.now.problem.now self.now.bounds.now (V.context self.now.view.now) (next_value next))) }
         ensures none { IfOk result (λ r. IfNone r (HasAssert self.now.problem.now self.now.bounds.now (V.context self.now.view.now) → ⊥)) }
         ensures kept { OnOk result (HoldsAsserts self.now.problem.now self.now.bounds.now (V.context self.now.view.now) asserts.new) }
     {
-        let least = least_assert(self.alloc, self.problem, asserts, self.view, self.bounds)?;
+        let least = least_assert(
+            self.alloc,
+            self.problem,
+            asserts,
+            self.view,
+            self.entries,
+            self.bounds,
+        )?;
         let Some(entry) = least else {
             return Ok(None);
         };

@@ -4,6 +4,7 @@ ghost use Rattle.me_terms.specs.Validity.{IsValid, IsLawful};
 ghost use Rattle.me_terms.specs.Close.{HasClose};
 ghost use Rattle.me_terms.specs.Assert.{HasAssert};
 ghost use Rattle.clause_pairs.specs.Pairs.{ArePairs};
+ghost use Rattle.literal_index.specs.Index.{IsIndex};
 ghost use Rattle.kept_asserts.specs.Held.{HoldsAsserts};
 ghost use Rattle.candidate_store.specs.Kept.{AreFrames, IsFrame, is_close};
 
@@ -41,6 +42,7 @@ impl<'a, V: View> Search<'a, V> {
     fn open_frame(&self, frames: &[Frame], asserts: &mut Asserts) -> Result<Frame, AllocError>
         requires valid { IsValid self.now.problem.now }
         requires bounds { IsLawful self.now.bounds.now }
+        requires index { IsIndex (V.context self.now.view.now) self.now.entries.now }
         requires pairs { ArePairs self.now.problem.now (V.context self.now.view.now) self.now.pairs.now }
         requires each { length (V.context self.now.view.now) ≡ length frames.now + 1 }
         requires frames { AreFrames self.now.problem.now self.now.bounds.now (take (length frames.now) (V.context self.now.view.now)) frames.now }
@@ -62,6 +64,7 @@ impl<'a, V: View> Search<'a, V> {
     fn new_frame(&self, frames: &[Frame], asserts: &mut Asserts) -> Result<Frame, AllocError>
         requires valid { IsValid self.now.problem.now }
         requires bounds { IsLawful self.now.bounds.now }
+        requires index { IsIndex (V.context self.now.view.now) self.now.entries.now }
         requires pairs { ArePairs self.now.problem.now (V.context self.now.view.now) self.now.pairs.now }
         requires each { length (V.context self.now.view.now) ≡ length frames.now + 1 }
         requires frames { AreFrames self.now.problem.now self.now.bounds.now (take (length frames.now) (V.context self.now.view.now)) frames.now }
@@ -82,6 +85,7 @@ impl<'a, V: View> Search<'a, V> {
     fn whole_frame(&self, frames: &[Frame], asserts: &mut Asserts) -> Result<Frame, AllocError>
         requires valid { IsValid self.now.problem.now }
         requires bounds { IsLawful self.now.bounds.now }
+        requires index { IsIndex (V.context self.now.view.now) self.now.entries.now }
         requires pairs { ArePairs self.now.problem.now (V.context self.now.view.now) self.now.pairs.now }
         requires each { length (V.context self.now.view.now) ≡ length frames.now + 1 }
         requires frames { AreFrames self.now.problem.now self.now.bounds.now (take (length frames.now) (V.context self.now.view.now)) frames.now }
@@ -103,6 +107,7 @@ impl<'a, V: View> Search<'a, V> {
     ) -> Result<Frame, AllocError>
         requires valid { IsValid self.now.problem.now }
         requires bounds { IsLawful self.now.bounds.now }
+        requires index { IsIndex (V.context self.now.view.now) self.now.entries.now }
         requires pairs { ArePairs self.now.problem.now (V.context self.now.view.now) self.now.pairs.now }
         requires each { length (V.context self.now.view.now) ≡ length frames.now + 1 }
         requires frames { AreFrames self.now.problem.now self.now.bounds.now (take (length frames.now) (V.context self.now.view.now)) frames.now }

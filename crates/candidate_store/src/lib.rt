@@ -9,6 +9,7 @@ mod assert_search;
 mod close_search;
 mod frame;
 mod framing;
+mod notes;
 mod search;
 mod split_test;
 mod store;

@@ -11,6 +11,7 @@ ghost use Rattle.candidate_store.specs.Searches.{HasNone, HasUnmet, IsBareAt};
 ghost use Rattle.me_terms.specs.Next.{HasRoom};
 
 use clause_pairs::Pairs;
+use literal_index::Index;
 use me_terms::{Bounds, Clause, Literal, Problem, View};
 use std::alloc::Global;
 
@@ -36,12 +37,13 @@ pub(crate) fn are_paired(lists: &[Vec<u32>], skip: usize) -> bool
     true
 }
 
-/// A problem and a context, what stands against what, and the bounds.
+/// A problem and a context, what stands against what, the index of the entries, and the bounds.
 pub(crate) struct Search<'a, V: View> {
     pub(crate) alloc: Global,
     pub(crate) problem: &'a Problem,
     pub(crate) bounds: &'a Bounds,
     pub(crate) pairs: &'a Pairs,
+    pub(crate) entries: &'a Index,
     pub(crate) view: &'a V,
 }
 
@@ -52,6 +54,7 @@ impl<'a, V: View> Drop for Search<'a, V> {
             problem: _,
             bounds: _,
             pairs: _,
+            entries: _,
             view: _,
         } = self;
     }

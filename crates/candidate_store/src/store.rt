@@ -8,16 +8,16 @@ ghost use Rattle.me_terms.specs.Next.{IsNext};
 ghost use Rattle.me_terms.specs.AnswerViews.{next_value};
 ghost use Rattle.me_terms.specs.declared.bounds.Bounds.{Bounds as BoundsOf};
 ghost use Rattle.me_terms.specs.declared.bounds.TheConstants.{MAX_ENTRIES};
-ghost use Rattle.entry_hiding.specs.Hiding.{IsHidingOf};
+ghost use Rattle.candidate_store.specs.Notes.{AreNotes};
 ghost use Rattle.clause_pairs.specs.Pairs.{ArePairs};
 ghost use Rattle.candidate_store.specs.Kept.{StandsFor, IsKept, IsNoted, IsBeside, IsFrame, AreAsserts};
 
 use crate::frame::{Frame, is_closed, last_of, step_again};
+use crate::notes::Notes;
 use crate::search::Search;
 use candidate_keys::Asserts;
 use clause_pairs::Pairs;
 use context_prefix::{Front, Prefix};
-use entry_hiding::Hiding;
 use me_context::Context;
 use me_terms::{Bounds, Next, Problem, View};
 use next_rule::next_step;
@@ -29,7 +29,7 @@ use std::marker::Model;
 pub struct Store {
     alloc: Global,
     bounds: Bounds,
-    hiding: Hiding,
+    notes: Notes,
     pairs: Pairs,
     /// All Asserts are among these where they are fresh.
     asserts: Asserts,
@@ -46,7 +46,7 @@ impl Model for Store {
 
     ghost coded = { Prim.hlevel (codes, arguments_code) };
 
-    ghost view = { λ s. record { bounds = s.bounds; hiding = s.hiding; pairs = s.pairs; asserts = s.asserts; is_fresh = s.is_fresh; frames = s.frames.items } };
+    ghost view = { λ s. record { bounds = s.bounds; notes = s.notes; pairs = s.pairs; asserts = s.asserts; is_fresh = s.is_fresh; frames = s.frames.items } };
 }
 
 /// The step at the pseudo-literal alone, from scratch.
@@ -67,7 +67,7 @@ impl Store {
         ensures { IfOk result (λ s. StandsFor problem.now bounds.now (grown.start bounds.now.start) s) }
     {
         let step = first_step(alloc, problem, bounds)?;
-        let hiding = Hiding::start(alloc)?;
+        let notes = Notes::start(alloc)?;
         let pairs = Pairs::new(alloc, problem)?;
         let frame = Frame {
             step,
@@ -78,7 +78,7 @@ impl Store {
         Ok(Store {
             alloc,
             bounds: *bounds,
-            hiding,
+            notes,
             pairs,
             asserts: Asserts::new(alloc),
             is_fresh: false,
@@ -159,7 +159,7 @@ impl Store {
             unreachable!();
         };
         self.pairs.enter(self.alloc, problem, entry)?;
-        match self.hiding.add(&Front::new(view, len), entry) {
+        match self.notes.add(&Front::new(view, len), entry) {
             Ok(()) => Ok(()),
             Err(AllocError) => {
                 self.pairs.leave();
@@ -170,15 +170,15 @@ impl Store {
 
     /// Forgets the last entry, and the Asserts, which may not be those of what is left.
     fn take_out(&mut self)
-        requires fits { (problem : ProblemValue) × (context : ContextOf) × (e : EntryValue) × IsHidingOf (add context e) self.old.hiding × ArePairs problem (add context e) self.old.pairs × (0 < length context) × (length context ≤ MAX_ENTRIES) }
-        ensures hiding { (context : ContextOf) (e : EntryValue) → IsHidingOf (add context e) self.old.hiding → IsHidingOf context self.new.hiding }
+        requires fits { (problem : ProblemValue) × (context : ContextOf) × (e : EntryValue) × AreNotes (add context e) self.old.notes × ArePairs problem (add context e) self.old.pairs × (0 < length context) × (length context ≤ MAX_ENTRIES) }
+        ensures notes { (context : ContextOf) (e : EntryValue) → AreNotes (add context e) self.old.notes → AreNotes context self.new.notes }
         ensures pairs { (problem : ProblemValue) (context : ContextOf) (e : EntryValue) → ArePairs problem (add context e) self.old.pairs → 0 < length context → ArePairs problem context self.new.pairs }
         ensures frames { self.new.frames ≡ self.old.frames }
         ensures bounds { self.new.bounds ≡ self.old.bounds }
         ensures stale { self.new.is_fresh ≡ false }
     {
         self.pairs.leave();
-        self.hiding.pop();
+        self.notes.pop();
         self.asserts.clear();
         self.is_fresh = false;
     }
@@ -189,18 +189,19 @@ impl Store {
         requires bounds { IsLawful self.old.bounds }
         requires beside { IsBeside problem.now (take (length self.old.frames) (V.context view.now)) (take (length self.old.frames + 1) (V.context view.now)) self.old }
         requires more { length self.old.frames < length (V.context view.now) }
-        ensures same { (self.new.hiding ≡ self.old.hiding) × (self.new.pairs ≡ self.old.pairs) × (self.new.frames ≡ self.old.frames) × (self.new.bounds ≡ self.old.bounds) }
+        ensures same { (self.new.notes ≡ self.old.notes) × (self.new.pairs ≡ self.old.pairs) × (self.new.frames ≡ self.old.frames) × (self.new.bounds ≡ self.old.bounds) }
         ensures frame { IfOk result (λ f. IsFrame problem.now self.old.bounds (take (length self.old.frames + 1) (V.context view.now)) (self.old.frames ++ f ∷ []) f) }
         ensures asserts { OnOk result (self.new.is_fresh ≡ true → AreAsserts problem.now (take (length self.old.frames + 1) (V.context view.now)) self.new) }
     {
         let _entries = view.len();
         let len = self.frames.len() as u32;
-        let prefix = Prefix::new(view, len + 1, &self.hiding);
+        let prefix = Prefix::new(view, len + 1, self.notes.hiding());
         let search = Search {
             alloc: self.alloc,
             problem,
             bounds: &self.bounds,
             pairs: &self.pairs,
+            entries: self.notes.entries(),
             view: &prefix,
         };
         let frame = search.frame(&self.frames, self.is_fresh, &mut self.asserts)?;
@@ -216,7 +217,7 @@ impl Store {
         requires more { length self.old.frames < length (V.context view.now) }
         ensures bounds { self.new.bounds ≡ self.old.bounds }
         ensures ok { OnOk result (IsKept problem.now (take (length self.old.frames + 1) (V.context view.now)) self.new) }
-        ensures err { OnErr result ((self.new.hiding ≡ self.old.hiding) × (self.new.pairs ≡ self.old.pairs) × (self.new.frames ≡ self.old.frames)) }
+        ensures err { OnErr result ((self.new.notes ≡ self.old.notes) × (self.new.pairs ≡ self.old.pairs) × (self.new.frames ≡ self.old.frames)) }
     {
         let frame = self.find(problem, view)?;
         self.keep(frame)

@@ -5,7 +5,7 @@ use Rattle.candidate_store.proofs.search.Search.add_assert.Goals as goal
 
 pub returns-in_default-clause-added : goal.returns-in_default-clause-added
 returns-in_default-clause-added g c =
-    λ e h. absurd (where_none c.in_ok-found.found _ c.in_default.is c.in_ok-found.ensures.none c.args.self.now.problem.now e c.requires.clause_at h tt)
+    λ e h. absurd (where_none c.in_ok-found.found _ c.in_default.is c.in_ok-found.ensures.none c.args.self.now.problem.now e c.requires.clause_at h)
 
 pub returns-clause-kept : goal.returns-clause-kept
 returns-clause-kept g c =

@@ -18,5 +18,5 @@ pub returns-clause-err : goal.returns-clause-err
 returns-clause-err g c =
     let same = c.in_ok-frame.ensures.same in
     on_err c.keep.result _ _
-    (λ is. (ap (λ (z : StoreValue). z.hiding) is ∙ same.0, ap (λ (z : StoreValue). z.pairs) is ∙ same.1, ap (λ (z : StoreValue). z.frames) is ∙ same.2))
+    (λ is. (ap (λ (z : StoreValue). z.notes) is ∙ same.0, ap (λ (z : StoreValue). z.pairs) is ∙ same.1, ap (λ (z : StoreValue). z.frames) is ∙ same.2))
     c.keep.ensures.err

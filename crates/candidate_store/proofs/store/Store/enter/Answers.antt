@@ -52,4 +52,4 @@ returns-in-Err-clause-err g c bounds stands =
     let e = entry_at whole (length c.args.self.now.frames) c.requires.more in
     let err = c.in-Err.ensures.err in
     let out = c.take_out.ensures in
-    forgotten c.args.problem.now bounds whole e.0 c.args.self.now c.take_in.new.self c.add_frame.new.self c.take_out.new.self e.1 stands c.in_ok-take_in.ensures.ok err.0 err.1 err.2 c.in-Err.ensures.bounds out.hiding out.pairs out.frames out.bounds out.stale
+    forgotten c.args.problem.now bounds whole e.0 c.args.self.now c.take_in.new.self c.add_frame.new.self c.take_out.new.self e.1 stands c.in_ok-take_in.ensures.ok err.0 err.1 err.2 c.in-Err.ensures.bounds out.notes out.pairs out.frames out.bounds out.stale

@@ -1,6 +1,7 @@
-use Rattle.std.proofs.Common.{◌≡◌, length, sym, ap, ◌∙◌, arith}
+use Rattle.std.proofs.Common.{◌≡◌, length, sym, subst, ap, ◌∙◌, arith}
+use Rattle.literal_index.specs.Index.{IndexValue, IsIndex}
 use Rattle.candidate_store.specs.Kept.{FrameValue, is_close}
-use Rattle.candidate_store.proofs.Stored.{not_true, prefix_long, prefix_pairs, prefix_frames, prefix_asserts, whole_frame, whole_asserts, some_frames}
+use Rattle.candidate_store.proofs.Stored.{not_true, prefix_long, prefix_pairs, prefix_index, prefix_frames, prefix_asserts, whole_frame, whole_asserts, some_frames}
 use Rattle.candidate_store.proofs.store.Store.find.Goals as goal
 
 pub frame-requires-clause-pairs : goal.frame-requires-clause-pairs
@@ -9,6 +10,14 @@ frame-requires-clause-pairs g c =
     let more = rw (← c.self.view_is) at c.requires.more in
     let same : c.len-len.result ≡ length c.self.inside.frames.items = omega arith in
     prefix_pairs c.args.problem.now c.self.inside.bounds (g.V.View.context c.args.view.now) c.new-prefix.result c.self.inside.frames.items c.len-len.result same more c.new-prefix.ensures c.self.inside.pairs beside.pairs
+
+pub frame-requires-clause-index : goal.frame-requires-clause-index
+frame-requires-clause-index g c =
+    let beside = rw (← c.self.view_is) at c.requires.beside in
+    let more = rw (← c.self.view_is) at c.requires.more in
+    let same : c.len-len.result ≡ length c.self.inside.frames.items = omega arith in
+    let P : IndexValue → Type 0 = λ z. IsIndex c.new-prefix.result z in
+    subst P (sym c.entries.ensures) (prefix_index c.args.problem.now c.self.inside.bounds (g.V.View.context c.args.view.now) c.new-prefix.result c.self.inside.frames.items c.len-len.result same more c.new-prefix.ensures c.self.inside.notes beside.notes)
 
 pub frame-requires-clause-each : goal.frame-requires-clause-each
 frame-requires-clause-each g c =

@@ -16,7 +16,7 @@ returns-clause-left c problem bounds context e given some =
     let stands = rw (← c.self.view_is) at given in
     let out = c.take_out.ensures in
     let f = c.in-Some._frame in (
-      left_one problem bounds context e _ c.take_out.new.self f stands some (out.hiding context e stands.kept.hiding) (out.pairs problem context e stands.kept.pairs some)
+      left_one problem bounds context e _ c.take_out.new.self f stands some (out.notes context e stands.kept.notes) (out.pairs problem context e stands.kept.pairs some)
           (c.in-Some.ensures.items ∙ ap (λ (z : List FrameValue). z ++ f ∷ []) (sym out.frames)) out.bounds out.stale,
       refl,
     )
