@@ -1,14 +1,34 @@
--- What an answer to a gift says.
-use Rattle.std.specs.Prelude.{◌≡◌, List, [], ◌∷◌, ◌++◌, ◌↔◌}
+-- What passes between a walk and the search around it, and what an answer to a gift says.
+use Rattle.std.specs.Prelude.{◌≡◌, ℕ, List, [], ◌∷◌, ◌++◌, ◌↔◌, Option, option_to_list}
 use Rattle.branch_core.specs.Paths.{Turns}
 use Rattle.branch_core.specs.declared.hook.Give.{Give}
 use Rattle.branch_core.specs.declared.hook.Give.TheVariants.{Away, NoRoom, NotNew}
 
--- The paths that were given away, after a gift of this path was answered: one more exactly where it went away.
-abbrev pub given_after : {J : Type 0} → List Turns → Turns → Give J → List Turns
-given_after given path Away = given ++ path ∷ []
-given_after given path (NoRoom work) = given
-given_after given path (NotNew work word) = given
+-- What passed between a walk and the search around it, each in order: the paths that were given away, the least keys that the walk was told, and the keys that it posted.
+pub record History : Type 0 where
+  pub given : List Turns
+  pub told : List ℕ
+  pub posted : List ℕ
+
+-- The history after a gift of this path was answered: one path more was given away exactly where it went.
+abbrev pub after_gift : {J : Type 0} → History → Turns → Give J → History
+after_gift history path Away = record history { given = history.given ++ path ∷ [] }
+after_gift history path (NoRoom work) = history
+after_gift history path (NotNew work word) = history
+
+-- The history after the walk asked for the least key, and was told this one or none.
+abbrev pub after_look : History → Option ℕ → History
+after_look history least = record history { told = history.told ++ option_to_list least }
+
+-- The history after this key was posted.
+abbrev pub after_post : History → ℕ → History
+after_post history key = record history { posted = history.posted ++ key ∷ [] }
+
+-- From the one history to the other these paths were given away, these keys were told, and these posted.
+pub record ExtendsBy (old new : History) (given : List Turns) (told posted : List ℕ) : Type 0 where
+  pub given_are : new.given ≡ old.given ++ given
+  pub told_are : new.told ≡ old.told ++ told
+  pub posted_are : new.posted ≡ old.posted ++ posted
 
 -- What is handed back is the work that was to be given.
 abbrev pub HandsBack : {J : Type 0} → J → Give J → Type 0

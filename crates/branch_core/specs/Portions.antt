@@ -1,13 +1,17 @@
 -- Portions: what a walk of a path may give away, and what it hands back.
 use Rattle.std.specs.Prelude.{◌≡◌, ◌⊎◌, ◌<◌, ◌≤◌, ℕ, zero, suc, true, false, List, [], ◌∷◌, ◌++◌, length, reverse}
 use Rattle.std.specs.List.{All, flat_map}
+use Rattle.me_terms.specs.Values.{ProblemValue}
 use Rattle.me_terms.specs.Context.{Context}
+use Rattle.me_terms.specs.Grown.{start}
+use Rattle.me_terms.specs.declared.bounds.Bounds.{Bounds}
+use Rattle.branch_core.specs.Hooks.{History, ExtendsBy}
 use Rattle.branch_core.specs.Joined.{Joins}
 use Rattle.branch_core.specs.Core.{EndsRight}
 use Rattle.branch_core.specs.Paths.{Turns, key, IsLeftOf, ProperlyBegins}
 use Rattle.branch_core.specs.Parts.{RecordValue}
 use Rattle.branch_core.specs.Pieces.{Piece, Closed, Bounded, Sat, Gift, Cut, NoMemory}
-use Rattle.branch_core.specs.SearchTree.{SearchTree}
+use Rattle.branch_core.specs.SearchTree.{SearchTree, IsSearchTree}
 use Rattle.branch_core.specs.StandsFor.{record_of, StandsFor}
 use Rattle.branch_core.specs.Whole.{IsIn}
 
@@ -22,6 +26,10 @@ pub record MayBeGiven (share : ℕ) (path gift : Turns) : Type 0 where
   pub right : EndsRight gift
   pub few : length gift ≤ share
   pub beside_left : (n : ℕ) × (gift ≡ path ++ (lefts n ++ true ∷ []))
+
+-- Whatever a walk of the path may give away is taken, with each work that can be walked there and names it.
+pub record TakesGifts {J : Type 0} (share : ℕ) (path : Turns) (path_of : J → Turns) (is_job may_give : Turns → J → Type 0) : Type 0 where
+  pub takes : (gift : Turns) (work : J) → MayBeGiven share path gift → is_job gift work → path_of work ≡ gift → may_give gift work
 
 -- The path that a Gift names. Other pieces name none.
 abbrev pub gift_of : Piece → List Turns
@@ -73,3 +81,11 @@ pub record IsPortion (list_bound share : ℕ) (search : SearchTree) (path : Turn
   pub lawful : All (MayBeGiven share path) given
   pub posted_are : posted ≡ sat_keys pieces
   pub one_sat : length posted ≤ 1
+
+-- A walk of the path handed the record back. With what the walk gave away, was told and posted, by which the new history extends the old one, it is a portion of the problem's tree within the bounds.
+pub record HandsBackPortion (problem : ProblemValue) (bounds : Bounds) (share : ℕ) (path : Turns) (old new : History) (record' : RecordValue) : Type 0 where
+  pub given : List Turns
+  pub told : List ℕ
+  pub posted : List ℕ
+  pub extends : ExtendsBy old new given told posted
+  pub portion : (search : SearchTree) → IsSearchTree problem bounds (start bounds.start) search → IsPortion bounds.list share search path told given posted record'

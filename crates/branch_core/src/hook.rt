@@ -2,9 +2,9 @@
 //!
 //! A hook takes right children that are given away, tells the least key, and takes the keys of exhausted
 //! leaves.
-ghost use Rattle.std.specs.Prelude.{◌≡◌, ℕ, List, [], ◌∷◌, ◌++◌, option_to_list};
+ghost use Rattle.std.specs.Prelude.{◌≡◌};
 ghost use Rattle.branch_core.specs.Paths.{Turns};
-ghost use Rattle.branch_core.specs.Hooks.{given_after, HandsBack, TellsWord, SameGifts};
+ghost use Rattle.branch_core.specs.Hooks.{History, after_gift, after_look, after_post, HandsBack, TellsWord, SameGifts};
 
 use crate::path::Path;
 
@@ -22,14 +22,8 @@ pub enum Give<J> {
 
 /// The search around a walk. `J` is the work that goes with a path.
 pub trait Hook<J> {
-    /// The paths that were given away, in order.
-    ghost given: { Self → List Turns };
-
-    /// The least keys that were told, in order.
-    ghost seen: { Self → List ℕ };
-
-    /// The keys that were posted, in order.
-    ghost posted: { Self → List ℕ };
+    /// What passed between the walk and this search.
+    ghost history: { Self → History };
 
     /// With which paths and works `give` may be called.
     ghost may_give: { Self → Turns → J → Type 0 };
@@ -37,24 +31,18 @@ pub trait Hook<J> {
     /// Gives a path away with its work.
     fn give(&mut self, path: Path, work: J) -> Give<J>
         requires { may_give self.old path work }
-        ensures given { given self.new ≡ given_after (given self.old) path result }
+        ensures history { history self.new ≡ after_gift (history self.old) path result }
         ensures back { HandsBack work result }
         ensures word { TellsWord result }
-        ensures seen { seen self.new ≡ seen self.old }
-        ensures posted { posted self.new ≡ posted self.old }
         ensures condition { SameGifts (may_give self.old) (may_give self.new) };
 
     /// The least key that was posted, as far as this worker knows.
     fn least(&mut self) -> Option<u16>
-        ensures given { given self.new ≡ given self.old }
-        ensures seen { seen self.new ≡ seen self.old ++ option_to_list result }
-        ensures posted { posted self.new ≡ posted self.old }
+        ensures history { history self.new ≡ after_look (history self.old) result }
         ensures condition { SameGifts (may_give self.old) (may_give self.new) };
 
     /// Posts the key of an exhausted leaf.
     fn post(&mut self, key: u16)
-        ensures given { given self.new ≡ given self.old }
-        ensures seen { seen self.new ≡ seen self.old }
-        ensures posted { posted self.new ≡ posted self.old ++ key ∷ [] }
+        ensures history { history self.new ≡ after_post (history self.old) key }
         ensures condition { SameGifts (may_give self.old) (may_give self.new) };
 }

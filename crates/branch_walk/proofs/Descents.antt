@@ -4,6 +4,7 @@ use Rattle.me_terms.specs.Values.{ProblemValue}
 use Rattle.me_terms.specs.Context.{Context, add}
 use Rattle.me_terms.specs.Grown.{IsGrown, asserted}
 use Rattle.me_terms.specs.declared.bounds.Bounds.{Bounds}
+use Rattle.branch_core.specs.Hooks.{ExtendsBy, History}
 use Rattle.branch_core.proofs.Orderly.{replaced_more}
 use Rattle.branch_core.specs.Paths.{Turns}
 use Rattle.branch_core.specs.Replaced.{Replaced}
@@ -11,7 +12,7 @@ use Rattle.branch_core.specs.SearchTree.{IsSearchTree, asserts}
 use Rattle.branch_walk.specs.Jobs.{turns_taken}
 use Rattle.branch_core.specs.Portions.{MayBeGiven, sat_keys, MayCut}
 use Rattle.branch_walk.specs.Tallies.{IsTally}
-use Rattle.branch_walk.specs.Walks.{Heard, Hears, IsVisited, IsWalked, LeadsTo, GoesOn}
+use Rattle.branch_walk.specs.Walks.{IsVisited, IsWalked, LeadsTo, GoesOn}
 use Rattle.branch_walk.specs.declared.state.State.{State}
 use Rattle.branch_walk.specs.declared.state.State.TheVariants.{Going, Cutting, Lost}
 use Rattle.branch_walk.specs.declared.state.Visit.TheVariants as visit
@@ -20,28 +21,28 @@ use Rattle.std.specs.List.{All}
 use Rattle.branch_walk.proofs.TurnsTaken.{turns_assert}
 use Rattle.branch_core.specs.Pieces.{Piece}
 use Rattle.branch_walk.proofs.Places.{in_right, may_more}
-use Rattle.branch_walk.proofs.Subtrees.{hears_none, hears_more, hears_sent}
+use Rattle.branch_walk.proofs.Subtrees.{extends_none, extends_more, extends_sent}
 
 -- the node is reached from the context by Asserts, and nothing came to the tally
-pub record IsDescending (problem : ProblemValue) (bounds : Bounds) (context node : Context) (heard now_heard : Heard) (old new : Tally) : Type 0 where
+pub record IsDescending (problem : ProblemValue) (bounds : Bounds) (context node : Context) (history now_history : History) (old new : Tally) : Type 0 where
   pub told : List ℕ
   pub leads : LeadsTo problem bounds context node
-  pub hears : Hears heard now_heard [] told []
+  pub extends : ExtendsBy history now_history [] told []
   pub same : new ≡ old
   pub below : (later : Context) × (node ≡ context ++ later)
 
-module _ (problem : ProblemValue) (bounds : Bounds) (context : Context) (heard : Heard) (old : Tally) where
-  pub descent_begins : IsGrown problem bounds context → IsDescending problem bounds context context heard heard old old
+module _ (problem : ProblemValue) (bounds : Bounds) (context : Context) (history : History) (old : Tally) where
+  pub descent_begins : IsGrown problem bounds context → IsDescending problem bounds context context history history old old
   descent_begins grown = record {
     told = [];
     leads = record { grown = grown; turns = refl; tree = λ own h. h };
-    hears = hears_none heard;
+    extends = extends_none history;
     same = refl;
     below = ([], sym (append-nil context));
   }
 
-  pub descends : (from to : Context) (h now : Heard) (was new : Tally) (told sent : List ℕ) → IsDescending problem bounds context from heard h old was → Hears h now [] told sent → IsVisited problem bounds from to was new told sent visit.Asserted → IsDescending problem bounds context to heard now old new
-  descends from to h now was new told sent d hears v =
+  pub descends : (from to : Context) (h now : History) (was new : Tally) (told sent : List ℕ) → IsDescending problem bounds context from history h old was → ExtendsBy h now [] told sent → IsVisited problem bounds from to was new told sent visit.Asserted → IsDescending problem bounds context to history now old new
+  descends from to h now was new told sent d extends v =
       let e = v.0 in
       let next = v.1 in
       let is = v.2 in
@@ -53,7 +54,7 @@ module _ (problem : ProblemValue) (bounds : Bounds) (context : Context) (heard :
           turns = ap turns_taken is ∙ (turns_assert problem bounds from e next ∙ d.leads.turns);
           tree = λ own tree. let S : Context → Type 0 = λ c. IsSearchTree problem bounds c own in d.leads.tree own (asserts next (subst S is tree));
         };
-        hears = hears_more d.hears (hears_sent v.4 hears);
+        extends = extends_more d.extends (extends_sent v.4 extends);
         same = v.3 ∙ d.same;
         below = (d.below.0 ++ e ∷ [], is ∙ (ap (λ (c : Context). add c e) d.below.1 ∙ append_assoc context d.below.0 (e ∷ [])));
       }
@@ -65,8 +66,8 @@ goes_more (Cutting cut_key) told told' ps qs turns f same h = λ other left. f c
 goes_more Lost told told' ps qs turns f same h = tt
 
 -- what was walked at the node, which is reached from the context by Asserts, was walked at the context
-pub lifted : (problem : ProblemValue) (bounds : Bounds) (context node : Context) (heard h now : Heard) (old was new : Tally) (state : State) (share : ℕ) (told : List ℕ) → LeadsTo problem bounds context node → Hears heard h [] told [] → was ≡ old → IsWalked problem bounds share node state h now was new → IsWalked problem bounds share context state heard now old new
-lifted problem bounds context node heard h now old was new state share told leads hears same w =
+pub lifted : (problem : ProblemValue) (bounds : Bounds) (context node : Context) (history h now : History) (old was new : Tally) (state : State) (share : ℕ) (told : List ℕ) → LeadsTo problem bounds context node → ExtendsBy history h [] told [] → was ≡ old → IsWalked problem bounds share node state h now was new → IsWalked problem bounds share context state history now old new
+lifted problem bounds context node history h now old was new state share told leads extends same w =
     let here = turns_taken context in
     let P : Turns → Type 0 = λ t. Replaced (MayCut w.told w.more) t w.own w.more × All (MayBeGiven share t) w.gave × GoesOn state w.told w.more t in
     let facts = subst P leads.turns (w.replaced, w.lawful, w.goes_on) in
@@ -80,7 +81,7 @@ lifted problem bounds context node heard h now old was new state share told lead
       gave = w.gave;
       told = all_told;
       sent = w.sent;
-      hears = hears_more hears w.hears;
+      extends = extends_more extends w.extends;
       replaced = replaced_more f facts.0;
       gifts_are = w.gifts_are;
       lawful = facts.1;

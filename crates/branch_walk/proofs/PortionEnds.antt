@@ -5,6 +5,7 @@ use Rattle.me_terms.specs.Values.{ProblemValue}
 use Rattle.me_terms.specs.Context.{Context}
 use Rattle.me_terms.specs.Grown.{IsGrown, start}
 use Rattle.me_terms.specs.declared.bounds.Bounds.{Bounds}
+use Rattle.branch_core.specs.Hooks.{History}
 use Rattle.branch_core.proofs.Orderly.{none_in, replaced_more, stands_more}
 use Rattle.branch_core.specs.Paths.{Turns}
 use Rattle.branch_core.specs.Parts.{RecordValue}
@@ -17,7 +18,7 @@ use Rattle.branch_core.specs.Whole.{IsIn, IsLicensed, AreWhole, AreWholeRecords}
 use Rattle.std.specs.List.{All}
 use Rattle.branch_walk.specs.Jobs.{turns_taken}
 use Rattle.branch_core.specs.Portions.{MayBeGiven, gift_of, gifts, MayCut, IsJoinedThrough, IsPortion}
-use Rattle.branch_walk.specs.Walks.{Heard, IsWalked}
+use Rattle.branch_walk.specs.Walks.{IsWalked}
 use Rattle.branch_walk.specs.declared.state.State.{State}
 use Rattle.branch_walk.specs.declared.tally.Tally.{Tally}
 use Rattle.branch_walk.proofs.Spines.{no_reverse}
@@ -26,8 +27,8 @@ use Rattle.branch_walk.proofs.TreesAt.{tree_at}
 use Rattle.branch_walk.proofs.TreesBelow.{same_tree}
 
 module _ (problem : ProblemValue) (bounds : Bounds) (share : ℕ) (path : Turns) (context : Context) where
-  pub portion : IsGrown problem bounds context → turns_taken context ≡ path → (state : State) (heard now : Heard) (old new : Tally) → (w : IsWalked problem bounds share context state heard now old new) → (pieces : List Piece) → Joined w.more pieces → IsJoinedThrough pieces → (record' : RecordValue) → record' ≡ record_of bounds.list (record { path = path; pieces = pieces }) → (search : SearchTree) → IsSearchTree problem bounds (start bounds.start) search → IsPortion bounds.list share search path w.told w.gave w.sent record'
-  portion grown turns state heard now old new w pieces joined through record' is search tree =
+  pub portion : IsGrown problem bounds context → turns_taken context ≡ path → (state : State) (history now : History) (old new : Tally) → (w : IsWalked problem bounds share context state history now old new) → (pieces : List Piece) → Joined w.more pieces → IsJoinedThrough pieces → (record' : RecordValue) → record' ≡ record_of bounds.list (record { path = path; pieces = pieces }) → (search : SearchTree) → IsSearchTree problem bounds (start bounds.start) search → IsPortion bounds.list share search path w.told w.gave w.sent record'
+  portion grown turns state history now old new w pieces joined through record' is search tree =
       let here = tree_at grown search tree in
       let own = same_tree problem bounds context here.own w.own here.tree w.tree in
       let L : List ℕ → Type 0 = λ s. length s ≤ 1 in

@@ -1,7 +1,6 @@
 -- The walk of a node whose left branch was walked: with what became of the right one.
 use Rattle.std.proofs.Common.{◌≡◌, ℕ, suc, ◌≤◌, Bool, true, false, List, [], ◌∷◌, ◌++◌, length, reverse, length-append, append-nil, append_assoc, refl, sym, subst, ap, ◌∙◌, arith}
 use Rattle.std.specs.List.{All}
-use Rattle.std.specs.Prelude.{if◌then◌else◌}
 use Rattle.std.proofs.lemmas.List.Elements.{All-append, All-cons, All-head, All-nil, All-weaker}
 use Rattle.std.proofs.lemmas.List.{length-reverse, reverse-append}
 use Rattle.me_terms.specs.Values.{ProblemValue, SplitLeft}
@@ -10,7 +9,7 @@ use Rattle.me_terms.specs.Grown.{IsGrown, split_entry, right_of, went_left, went
 use Rattle.me_terms.specs.declared.bounds.Bounds.{Bounds}
 use Rattle.branch_core.proofs.Orderly.{replaced_more}
 use Rattle.branch_core.specs.Paths.{Turns, IsLeftOf}
-use Rattle.branch_core.specs.Hooks.{SameGifts}
+use Rattle.branch_core.specs.Hooks.{ExtendsBy, History, SameGifts}
 use Rattle.branch_core.specs.Pieces.{Piece, Gift, Cut, NoMemory}
 use Rattle.branch_core.specs.Replaced.{Replaced, own_node, given, cut, no_memory}
 use Rattle.branch_core.specs.SearchTree.{SearchTree, Node, IsSearchTree, splits}
@@ -18,7 +17,7 @@ use Rattle.branch_walk.specs.Jobs.{turns_taken}
 use Rattle.branch_core.specs.Portions.{lefts, MayBeGiven, gifts, sat_keys, MayCut}
 use Rattle.branch_walk.specs.Tallies.{IsTally, TakesOwnLeaf}
 use Rattle.branch_walk.specs.Turning.{EndsLeft, beside}
-use Rattle.branch_walk.specs.Walks.{Heard, Hears, GoesOn, IsReady, IsWalked, HasWalkedLeft, gift_if}
+use Rattle.branch_walk.specs.Walks.{GoesOn, IsReady, IsWalked, HasWalkedLeft, gift_if}
 use Rattle.branch_walk.specs.declared.state.State.{State}
 use Rattle.branch_walk.specs.declared.state.State.TheVariants.{Going, Cutting, Lost}
 use Rattle.branch_walk.specs.declared.tally.Tally.{Tally}
@@ -27,7 +26,7 @@ use Rattle.branch_walk.proofs.Ends.{longer}
 use Rattle.branch_walk.proofs.Pushes.{open_loses, open_takes}
 use Rattle.branch_walk.proofs.LeftRight.{below_left, children_apart}
 use Rattle.branch_walk.proofs.Places.{may_left, may_right}
-use Rattle.branch_walk.proofs.Subtrees.{hears_more, hears_none, gifts_append, sats_append, grown_some}
+use Rattle.branch_walk.proofs.Subtrees.{extends_more, extends_none, gifts_append, sats_append, grown_some}
 use Rattle.branch_walk.proofs.TreesBelow.{tree_of}
 use Rattle.branch_walk.proofs.TurnsTaken.{turns_left, turns_right}
 
@@ -86,9 +85,9 @@ goes_up (Cutting cut_key) told pieces node turns turn is h =
     λ other left. let P : Turns → Type 0 = λ t. IsLeftOf t other in h other (subst P (sym is) (below_left node (turn ∷ []) other left))
 goes_up Lost told pieces node turns turn is h = tt
 
-module _ (problem : ProblemValue) (bounds : Bounds) (share : ℕ) (away : Bool) (right : Turns) (base : ℕ) (state : State) (stands_at node : Context) (start mid : Heard) (first was : Tally) where
-  pub combine : (hl : HasWalkedLeft problem bounds share away right base state stands_at node start mid first was) → (now : Heard) (new : Tally) (result : State) (tree : SearchTree) → IsSearchTree problem bounds (right_of node hl.split.l hl.split.kind) tree → (more : List Piece) (told sent : List ℕ) → Hears mid now [] told sent → Replaced (MayCut (hl.walked.told ++ told) (hl.walked.more ++ more)) (turns_taken node ++ true ∷ []) tree more → gifts more ≡ gift_if away right → sat_keys more ≡ sent → length (hl.walked.sent ++ sent) ≤ 1 → GoesOn result (hl.walked.told ++ told) (hl.walked.more ++ more) (turns_taken node) → ((before : List Piece) → IsTally bounds.list was before → IsTally bounds.list new (before ++ more)) → IsWalked problem bounds share node result start now first new
-  combine hl now new result tree is_tree more told sent hears replaced gift_is sent_is one on add_all =
+module _ (problem : ProblemValue) (bounds : Bounds) (share : ℕ) (away : Bool) (right : Turns) (base : ℕ) (state : State) (stands_at node : Context) (start mid : History) (first was : Tally) where
+  pub combine : (hl : HasWalkedLeft problem bounds share away right base state stands_at node start mid first was) → (now : History) (new : Tally) (result : State) (tree : SearchTree) → IsSearchTree problem bounds (right_of node hl.split.l hl.split.kind) tree → (more : List Piece) (told sent : List ℕ) → ExtendsBy mid now [] told sent → Replaced (MayCut (hl.walked.told ++ told) (hl.walked.more ++ more)) (turns_taken node ++ true ∷ []) tree more → gifts more ≡ gift_if away right → sat_keys more ≡ sent → length (hl.walked.sent ++ sent) ≤ 1 → GoesOn result (hl.walked.told ++ told) (hl.walked.more ++ more) (turns_taken node) → ((before : List Piece) → IsTally bounds.list was before → IsTally bounds.list new (before ++ more)) → IsWalked problem bounds share node result start now first new
+  combine hl now new result tree is_tree more told sent extends replaced gift_is sent_is one on add_all =
       let w = hl.walked in
       let l = hl.split.l in
       let kind = hl.split.kind in
@@ -100,7 +99,7 @@ module _ (problem : ProblemValue) (bounds : Bounds) (share : ℕ) (away : Bool) 
       let R : Turns → Type 0 = λ t. Replaced (MayCut (w.told ++ told) all) t w.own w.more in
       let left_replaced = subst R left_turns (replaced_more (may_left w.told told w.more more) w.replaced) in
       let T : List Piece → Type 0 = λ ps. IsTally bounds.list new ps in
-      let H : List Turns → Type 0 = λ g. Hears start now g (w.told ++ told) (w.sent ++ sent) in
+      let H : List Turns → Type 0 = λ g. ExtendsBy start now g (w.told ++ told) (w.sent ++ sent) in
       let gave : List Turns = gift ++ w.gave in
       let no_more : gift ++ (w.gave ++ []) ≡ gave = ap (λ (g : List Turns). gift ++ g) (append-nil w.gave) in
       let reversed : reverse (gifts all) ≡ gave =
@@ -116,7 +115,7 @@ module _ (problem : ProblemValue) (bounds : Bounds) (share : ℕ) (away : Bool) 
         gave = gave;
         told = w.told ++ told;
         sent = w.sent ++ sent;
-        hears = subst H no_more (hears_more hl.went (hears_more w.hears hears));
+        extends = subst H no_more (extends_more hl.went (extends_more w.extends extends));
         replaced = own_node left_replaced replaced;
         gifts_are = sym reversed;
         lawful = All-append (MayBeGiven share here) gift w.gave (gift_lawful share here right away hl.right_is hl.few) (All-weaker (MayBeGiven share (turns_taken hl.left)) (MayBeGiven share here) (λ g may. given_deeper share here (turns_taken hl.left) g left_turns may) w.gave w.lawful);
@@ -145,7 +144,7 @@ module _ (problem : ProblemValue) (bounds : Bounds) (share : ℕ) (away : Bool) 
       let tree = right_tree hl in
       let M = MayCut (hl.walked.told ++ []) (hl.walked.more ++ Gift right ∷ []) in
       let R : Turns → Type 0 = λ t. Replaced M t tree.0 (Gift right ∷ []) in
-      combine hl mid new state tree.0 tree.1 (Gift right ∷ []) [] [] (hears_none mid) (subst R hl.right_is given) (ap (λ b. gift_if b right) (sym yes_away)) refl (sent_one hl) (left_state hl [] (Gift right ∷ []) refl) add_all
+      combine hl mid new state tree.0 tree.1 (Gift right ∷ []) [] [] (extends_none mid) (subst R hl.right_is given) (ap (λ b. gift_if b right) (sym yes_away)) refl (sent_one hl) (left_state hl [] (Gift right ∷ []) refl) add_all
 
   -- it is cut with the key that cut the left one
   pub cut_right : (hl : HasWalkedLeft problem bounds share away right base state stands_at node start mid first was) → away ≡ false → (cut_key : ℕ) → state ≡ Cutting cut_key → (new : Tally) → ((before : List Piece) → IsTally bounds.list was before → IsTally bounds.list new (before ++ Cut right cut_key ∷ [])) → IsWalked problem bounds share node (Cutting cut_key) start mid first new
@@ -163,16 +162,16 @@ module _ (problem : ProblemValue) (bounds : Bounds) (share : ℕ) (away : Bool) 
       let may = may_left w.told [] w.more more cut_key right (on right apart) in
       let R : Turns → Type 0 = λ t. Replaced M t tree.0 more in
       let S : State → Type 0 = λ s. GoesOn s (w.told ++ []) (w.more ++ more) (turns_taken node) in
-      combine hl mid new (Cutting cut_key) tree.0 tree.1 more [] [] (hears_none mid) (subst R hl.right_is (cut may)) (ap (λ b. gift_if b right) (sym stays)) refl (sent_one hl) (subst S is (left_state hl [] more refl)) add_all
+      combine hl mid new (Cutting cut_key) tree.0 tree.1 more [] [] (extends_none mid) (subst R hl.right_is (cut may)) (ap (λ b. gift_if b right) (sym stays)) refl (sent_one hl) (subst S is (left_state hl [] more refl)) add_all
 
   -- it is lost
   pub lost_right : (hl : HasWalkedLeft problem bounds share away right base state stands_at node start mid first was) → away ≡ false → (new : Tally) → ((before : List Piece) → IsTally bounds.list was before → IsTally bounds.list new (before ++ NoMemory ∷ [])) → IsWalked problem bounds share node Lost start mid first new
   lost_right hl stays new add_all =
       let tree = right_tree hl in
-      combine hl mid new Lost tree.0 tree.1 (NoMemory ∷ []) [] [] (hears_none mid) no_memory (ap (λ b. gift_if b right) (sym stays)) refl (sent_one hl) tt add_all
+      combine hl mid new Lost tree.0 tree.1 (NoMemory ∷ []) [] [] (extends_none mid) no_memory (ap (λ b. gift_if b right) (sym stays)) refl (sent_one hl) tt add_all
 
   -- it was walked too
-  pub walked_right : (hl : HasWalkedLeft problem bounds share away right base state stands_at node start mid first was) → away ≡ false → state ≡ Going → (turned : Context) → turned ≡ right_of node hl.split.l hl.split.kind → (result : State) (now : Heard) (new : Tally) → IsWalked problem bounds 0 turned result mid now was new → IsWalked problem bounds share node result start now first new
+  pub walked_right : (hl : HasWalkedLeft problem bounds share away right base state stands_at node start mid first was) → away ≡ false → state ≡ Going → (turned : Context) → turned ≡ right_of node hl.split.l hl.split.kind → (result : State) (now : History) (new : Tally) → IsWalked problem bounds 0 turned result mid now was new → IsWalked problem bounds share node result start now first new
   walked_right hl stays going turned is result now new r =
       let w = hl.walked in
       let l = hl.split.l in
@@ -181,7 +180,7 @@ module _ (problem : ProblemValue) (bounds : Bounds) (share : ℕ) (away : Bool) 
       let nothing = no_gifts (turns_taken turned) r.gave r.lawful in
       let no_gift : gifts r.more ≡ [] = no_reverse (gifts r.more) (sym nothing ∙ r.gifts_are) in
       let C : Context → Type 0 = λ c. IsSearchTree problem bounds c r.own in
-      let H : List Turns → Type 0 = λ g. Hears mid now g r.told r.sent in
+      let H : List Turns → Type 0 = λ g. ExtendsBy mid now g r.told r.sent in
       let told = w.told ++ r.told in
       let more : List Piece = w.more ++ r.more in
       let may = may_right w.told r.told w.more r.more in
@@ -191,7 +190,7 @@ module _ (problem : ProblemValue) (bounds : Bounds) (share : ℕ) (away : Bool) 
       let no_sent : w.sent ≡ [] = w.sent_is ∙ no_sat in
       let L : List ℕ → Type 0 = λ s. length (s ++ r.sent) ≤ 1 in
       let same : sat_keys more ≡ sat_keys r.more = sats_append w.more r.more ∙ ap (λ (ks : List ℕ). ks ++ sat_keys r.more) no_sat in
-      combine hl now new result r.own (subst C is r.tree) r.more r.told r.sent (subst H nothing r.hears) (subst R turns_are (replaced_more may r.replaced)) (no_gift ∙ ap (λ b. gift_if b right) (sym stays)) (sym r.sent_is) (subst L (sym no_sent) r.one_sat)
+      combine hl now new result r.own (subst C is r.tree) r.more r.told r.sent (subst H nothing r.extends) (subst R turns_are (replaced_more may r.replaced)) (no_gift ∙ ap (λ b. gift_if b right) (sym stays)) (sym r.sent_is) (subst L (sym no_sent) r.one_sat)
       (goes_up result told more (turns_taken node) (turns_taken turned) true turns_are (goes_more result r.told told r.more more (turns_taken turned) may same r.goes_on)) r.tally
 
 -- ---- which gifts are admitted
@@ -204,7 +203,7 @@ ready_open Going tally h = h
 ready_open (Cutting cut_key) tally h = open_takes cut_key tally.last h
 ready_open Lost tally h = open_loses tally.last h
 
-module _ (problem : ProblemValue) (bounds : Bounds) (share : ℕ) (away : Bool) (right : Turns) (base : ℕ) (state : State) (stands_at node : Context) (start mid : Heard) (first was : Tally) (hl : HasWalkedLeft problem bounds share away right base state stands_at node start mid first was) where
+module _ (problem : ProblemValue) (bounds : Bounds) (share : ℕ) (away : Bool) (right : Turns) (base : ℕ) (state : State) (stands_at node : Context) (start mid : History) (first was : Tally) (hl : HasWalkedLeft problem bounds share away right base state stands_at node start mid first was) where
   pub left_ends : EndsLeft hl.left
   left_ends = record { before = node; left = split_entry hl.split.l hl.split.kind SplitLeft; some = grown_some hl.grown; is = hl.split.is; is_left = refl }
 
@@ -224,8 +223,3 @@ module _ (problem : ProblemValue) (bounds : Bounds) (share : ℕ) (away : Bool) 
   right_grown turned is =
       let P : Context → Type 0 = λ c. IsGrown problem bounds c in
       subst P (sym is) (went_right hl.grown hl.split.next)
-
--- a path that went away, or did not
-pub given_if : (away : Bool) (right : Turns) (old new : List Turns) → new ≡ (if away then old ++ right ∷ [] else old) → new ≡ old ++ gift_if away right
-given_if true right old new h = h
-given_if false right old new h = h ∙ sym (append-nil old)

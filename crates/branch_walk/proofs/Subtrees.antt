@@ -7,6 +7,7 @@ use Rattle.me_terms.specs.Context.{Context, pseudo, add}
 use Rattle.me_terms.specs.Grown.{IsGrown, split_entry, asserted, went_left}
 use Rattle.me_terms.specs.Outcome.{TreeOutcome, Closed, Sat, Met}
 use Rattle.me_terms.specs.declared.bounds.Bounds.{Bounds}
+use Rattle.branch_core.specs.Hooks.{ExtendsBy, History}
 use Rattle.branch_core.specs.Paths.{Turns, key, IsLeftOf}
 use Rattle.branch_core.specs.Pieces.{Piece, leaf_piece}
 use Rattle.branch_core.specs.Pieces as piece
@@ -17,7 +18,7 @@ use Rattle.branch_walk.specs.Jobs.{turns_taken}
 use Rattle.branch_core.specs.Portions.{MayBeGiven, gift_of, sat_key_of, gifts, sat_keys, MayCut}
 use Rattle.branch_walk.specs.Tallies.{IsTally, TakesOwnLeaf, cuts, losses}
 use Rattle.branch_walk.specs.Turning.{IsAllBack, IsBackAtLeft, beside}
-use Rattle.branch_walk.specs.Walks.{Heard, Hears, GoesOn, HasLeaf, HasSat, IsWalked, IsVisited}
+use Rattle.branch_walk.specs.Walks.{GoesOn, HasLeaf, HasSat, IsWalked, IsVisited}
 use Rattle.branch_walk.specs.declared.state.State.{State}
 use Rattle.branch_walk.specs.declared.state.State.TheVariants.{Going, Cutting, Lost}
 use Rattle.branch_walk.specs.declared.state.Visit.{Visit}
@@ -33,19 +34,19 @@ use Rattle.me_laws.proofs.Grown.{grown}
 use Rattle.std.proofs.lemmas.Option.{slice_get_within}
 use Rattle.branch_walk.proofs.Waiting.{Waiting, at_root, beside_none, beside_left, begins, AllRight, wait_right, waits_beside, back_at_root}
 
--- ---- what a hook hears
-pub hears_none : (heard : Heard) → Hears heard heard [] [] []
-hears_none heard = record { given = sym (append-nil heard.given); seen = sym (append-nil heard.seen); posted = sym (append-nil heard.posted) }
+-- ---- what passes between a walk and its hook
+pub extends_none : (history : History) → ExtendsBy history history [] [] []
+extends_none history = record { given_are = sym (append-nil history.given); told_are = sym (append-nil history.told); posted_are = sym (append-nil history.posted) }
 
-pub hears_more : {a b c : Heard} {gave gave' : List Turns} {told told' sent sent' : List ℕ} → Hears a b gave told sent → Hears b c gave' told' sent' → Hears a c (gave ++ gave') (told ++ told') (sent ++ sent')
-hears_more {a} {b} {c} {gave} {gave'} {told} {told'} {sent} {sent'} f g = record {
-  given = g.given ∙ (ap (λ (x : List Turns). x ++ gave') f.given ∙ append_assoc a.given gave gave');
-  seen = g.seen ∙ (ap (λ (x : List ℕ). x ++ told') f.seen ∙ append_assoc a.seen told told');
-  posted = g.posted ∙ (ap (λ (x : List ℕ). x ++ sent') f.posted ∙ append_assoc a.posted sent sent');
+pub extends_more : {a b c : History} {gave gave' : List Turns} {told told' sent sent' : List ℕ} → ExtendsBy a b gave told sent → ExtendsBy b c gave' told' sent' → ExtendsBy a c (gave ++ gave') (told ++ told') (sent ++ sent')
+extends_more {a} {b} {c} {gave} {gave'} {told} {told'} {sent} {sent'} f g = record {
+  given_are = g.given_are ∙ (ap (λ (x : List Turns). x ++ gave') f.given_are ∙ append_assoc a.given gave gave');
+  told_are = g.told_are ∙ (ap (λ (x : List ℕ). x ++ told') f.told_are ∙ append_assoc a.told told told');
+  posted_are = g.posted_are ∙ (ap (λ (x : List ℕ). x ++ sent') f.posted_are ∙ append_assoc a.posted sent sent');
 }
 
-pub hears_sent : {a b : Heard} {gave : List Turns} {told sent sent' : List ℕ} → sent ≡ sent' → Hears a b gave told sent → Hears a b gave told sent'
-hears_sent {a} {b} {gave} {told} same h = let P : List ℕ → Type 0 = λ s. Hears a b gave told s in subst P same h
+pub extends_sent : {a b : History} {gave : List Turns} {told sent sent' : List ℕ} → sent ≡ sent' → ExtendsBy a b gave told sent → ExtendsBy a b gave told sent'
+extends_sent {a} {b} {gave} {told} same h = let P : List ℕ → Type 0 = λ s. ExtendsBy a b gave told s in subst P same h
 
 -- ---- gifts and exhausted leaves among pieces
 pub gifts_append : (ps qs : List Piece) → gifts (ps ++ qs) ≡ gifts ps ++ gifts qs
@@ -99,7 +100,7 @@ lose_rest told pieces (b ∷ bs) = (piece.NoMemory ∷ [], losses (nodes_of bs),
 
 -- ---- where the walk stands
 -- the leaves left of the walk's node came to the tally, and none is exhausted
-pub record IsWalking (problem : ProblemValue) (bounds : Bounds) (root context : Context) (heard now_heard : Heard) (old new : Tally) : Type 0 where
+pub record IsWalking (problem : ProblemValue) (bounds : Bounds) (root context : Context) (history now_history : History) (old new : Tally) : Type 0 where
   pub whole : SearchTree
   pub own : SearchTree
   pub passed : List Piece
@@ -112,12 +113,12 @@ pub record IsWalking (problem : ProblemValue) (bounds : Bounds) (root context : 
   pub place : IsPlace (turns_taken root) whole (turns_taken context) own passed waiting
   pub no_gifts : gifts passed ≡ []
   pub no_sats : sat_keys passed ≡ []
-  pub hears : Hears heard now_heard [] told []
+  pub extends : ExtendsBy history now_history [] told []
   pub tally : (before : List Piece) → IsTally bounds.list old before → IsTally bounds.list new (before ++ passed)
   pub is_open : TakesOwnLeaf new
 
-module _ (problem : ProblemValue) (bounds : Bounds) (root : Context) (heard : Heard) (old : Tally) where
-  pub walk_begins : IsGrown problem bounds root → TakesOwnLeaf old → IsWalking problem bounds root root heard heard old old
+module _ (problem : ProblemValue) (bounds : Bounds) (root : Context) (history : History) (old : Tally) where
+  pub walk_begins : IsGrown problem bounds root → TakesOwnLeaf old → IsWalking problem bounds root root history history old old
   walk_begins grown first =
       let own = tree_of problem bounds root grown in
       record {
@@ -133,7 +134,7 @@ module _ (problem : ProblemValue) (bounds : Bounds) (root : Context) (heard : He
         place = place_root (turns_taken root) own.0;
         no_gifts = refl;
         no_sats = refl;
-        hears = hears_none heard;
+        extends = extends_none history;
         tally = λ before h. let P : List Piece → Type 0 = λ ps. IsTally bounds.list old ps in subst P (sym (append-nil before)) h;
         is_open = first;
       }
@@ -148,8 +149,8 @@ module _ (problem : ProblemValue) (bounds : Bounds) (root : Context) (heard : He
   no_left : (e : EntryValue) (c place : ℕ) (tuple : List ℕ) → e.reason ≡ Asserted c place tuple → e.reason ≡ SplitLeft → ⊥
   no_left e c place tuple why is = let bad : Asserted c place tuple ≡ SplitLeft = sym why ∙ is in cc bad
 
-  pub walk_asserts : (from to : Context) (h now : Heard) (was new : Tally) (told sent : List ℕ) → IsWalking problem bounds root from heard h old was → Hears h now [] told sent → IsVisited problem bounds from to was new told sent visit.Asserted → IsWalking problem bounds root to heard now old new
-  walk_asserts from to h now was new told sent w hears v =
+  pub walk_asserts : (from to : Context) (h now : History) (was new : Tally) (told sent : List ℕ) → IsWalking problem bounds root from history h old was → ExtendsBy h now [] told sent → IsVisited problem bounds from to was new told sent visit.Asserted → IsWalking problem bounds root to history now old new
+  walk_asserts from to h now was new told sent w extends v =
       let e = v.0 in
       let next = v.1 in
       let is = v.2 in
@@ -169,13 +170,13 @@ module _ (problem : ProblemValue) (bounds : Bounds) (root : Context) (heard : He
         place = place_at (ap turns_taken is ∙ turns_assert problem bounds from e next) w.place;
         no_gifts = w.no_gifts;
         no_sats = w.no_sats;
-        hears = hears_more w.hears (hears_sent v.4 hears);
+        extends = extends_more w.extends (extends_sent v.4 extends);
         tally = λ before t. kept (before ++ w.passed) was new v.3 (w.tally before t);
         is_open = opened was new v.3 w.is_open;
       }
 
-  pub walk_left : (from to : Context) (h now : Heard) (was new : Tally) (told sent : List ℕ) → IsWalking problem bounds root from heard h old was → Hears h now [] told sent → IsVisited problem bounds from to was new told sent visit.Left → IsWalking problem bounds root to heard now old new
-  walk_left from to h now was new told sent w hears v =
+  pub walk_left : (from to : Context) (h now : History) (was new : Tally) (told sent : List ℕ) → IsWalking problem bounds root from history h old was → ExtendsBy h now [] told sent → IsVisited problem bounds from to was new told sent visit.Left → IsWalking problem bounds root to history now old new
+  walk_left from to h now was new told sent w extends v =
       let l = v.0 in
       let kind = v.1 in
       let next = v.2 in
@@ -196,13 +197,13 @@ module _ (problem : ProblemValue) (bounds : Bounds) (root : Context) (heard : He
         place = place_at (ap turns_taken is ∙ turns_left from l kind) (place_left (turns_taken root) (turns_taken from) w.whole w.own children.left children.right w.passed w.waiting children.is w.place);
         no_gifts = w.no_gifts;
         no_sats = w.no_sats;
-        hears = hears_more w.hears (hears_sent v.5 hears);
+        extends = extends_more w.extends (extends_sent v.5 extends);
         tally = λ before t. kept (before ++ w.passed) was new v.4 (w.tally before t);
         is_open = opened was new v.4 w.is_open;
       }
 
-  pub walk_turns : (from mid to : Context) (h now : Heard) (was new : Tally) (told sent : List ℕ) → 1 ≤ length root → IsWalking problem bounds root from heard h old was → Hears h now [] told sent → sent ≡ [] → HasLeaf problem bounds from was new → (b : IsBackAtLeft (length root) from mid) → to ≡ add b.before (beside b.left) → IsWalking problem bounds root to heard now old new
-  walk_turns from mid to h now was new told sent some w hears none leaf b turned =
+  pub walk_turns : (from mid to : Context) (h now : History) (was new : Tally) (told sent : List ℕ) → 1 ≤ length root → IsWalking problem bounds root from history h old was → ExtendsBy h now [] told sent → sent ≡ [] → HasLeaf problem bounds from was new → (b : IsBackAtLeft (length root) from mid) → to ≡ add b.before (beside b.left) → IsWalking problem bounds root to history now old new
+  walk_turns from mid to h now was new told sent some w extends none leaf b turned =
       let above = b.above in
       let beside_it = waits_beside problem bounds root from mid w.waiting w.waits b in
       let G : Context → Type 0 = λ c. IsGrown problem bounds c in
@@ -225,14 +226,14 @@ module _ (problem : ProblemValue) (bounds : Bounds) (root : Context) (heard : He
         place = place_at (ap turns_taken turned ∙ turns_beside b.before b.left) (place_right (turns_taken root) (turns_taken from) w.whole w.own w.passed leaf.outcome one beside_it.later own_is (subst Q beside_it.first w.place));
         no_gifts = none_both (gifts w.passed) (gifts (piece_here ∷ [])) (gifts (w.passed ++ piece_here ∷ [])) (gifts_append w.passed (piece_here ∷ [])) w.no_gifts (gifts_leaf (turns_taken from) leaf.outcome);
         no_sats = none_both (sat_keys w.passed) (sat_keys (piece_here ∷ [])) (sat_keys (w.passed ++ piece_here ∷ [])) (sats_append w.passed (piece_here ∷ [])) w.no_sats (sats_leaf (turns_taken from) leaf.outcome leaf.no_sat);
-        hears = hears_more w.hears (hears_sent none hears);
+        extends = extends_more w.extends (extends_sent none extends);
         tally = λ before t. subst T (append_assoc before w.passed (piece_here ∷ [])) (leaf.tally (before ++ w.passed) (w.tally before t));
         is_open = leaf.is_open;
       }
 
   -- ---- how it ends
-  pub finish : (context : Context) (h now : Heard) (was new : Tally) (state : State) (share : ℕ) (here rest : List Piece) (told sent : List ℕ) → (w : IsWalking problem bounds root context heard h old was) → Hears h now [] told sent → Replaced (MayCut (w.told ++ told) (w.passed ++ (here ++ rest))) (turns_taken context) w.own here → AllReplaced (w.told ++ told) (w.passed ++ (here ++ rest)) w.waiting rest → gifts here ≡ [] → gifts rest ≡ [] → sat_keys here ≡ sent → sat_keys rest ≡ [] → length sent ≤ 1 → GoesOn state (w.told ++ told) (w.passed ++ (here ++ rest)) (turns_taken root) → ((before : List Piece) → IsTally bounds.list was before → IsTally bounds.list new (before ++ (here ++ rest))) → IsWalked problem bounds share root state heard now old new
-  finish context h now was new state share here rest told sent w hears own_here all_rest no_gift no_gifts sat_is no_sats one on add_all =
+  pub finish : (context : Context) (h now : History) (was new : Tally) (state : State) (share : ℕ) (here rest : List Piece) (told sent : List ℕ) → (w : IsWalking problem bounds root context history h old was) → ExtendsBy h now [] told sent → Replaced (MayCut (w.told ++ told) (w.passed ++ (here ++ rest))) (turns_taken context) w.own here → AllReplaced (w.told ++ told) (w.passed ++ (here ++ rest)) w.waiting rest → gifts here ≡ [] → gifts rest ≡ [] → sat_keys here ≡ sent → sat_keys rest ≡ [] → length sent ≤ 1 → GoesOn state (w.told ++ told) (w.passed ++ (here ++ rest)) (turns_taken root) → ((before : List Piece) → IsTally bounds.list was before → IsTally bounds.list new (before ++ (here ++ rest))) → IsWalked problem bounds share root state history now old new
+  finish context h now was new state share here rest told sent w extends own_here all_rest no_gift no_gifts sat_is no_sats one on add_all =
       let more : List Piece = w.passed ++ (here ++ rest) in
       let T : List Piece → Type 0 = λ ps. IsTally bounds.list new ps in
       let none : gifts more ≡ [] = none_both (gifts w.passed) (gifts (here ++ rest)) (gifts more) (gifts_append w.passed (here ++ rest)) w.no_gifts (none_both (gifts here) (gifts rest) (gifts (here ++ rest)) (gifts_append here rest) no_gift no_gifts) in
@@ -246,7 +247,7 @@ module _ (problem : ProblemValue) (bounds : Bounds) (root : Context) (heard : He
         gave = [];
         told = w.told ++ told;
         sent = sent;
-        hears = hears_more w.hears hears;
+        extends = extends_more w.extends extends;
         replaced = w.place.complete (w.told ++ told) more here rest own_here all_rest;
         gifts_are = ap (λ (g : List Turns). reverse g) (sym none);
         lawful = All-nil (MayBeGiven share (turns_taken root));
@@ -270,8 +271,8 @@ module _ (problem : ProblemValue) (bounds : Bounds) (root : Context) (heard : He
       subst P (sym (same_tree problem bounds context own (Leaf outcome) f g)) own_leaf
 
   -- the last leaf is not exhausted, and nothing waits
-  pub ends_going : (context after : Context) (h now : Heard) (was new : Tally) (told sent : List ℕ) → IsWalking problem bounds root context heard h old was → Hears h now [] told sent → sent ≡ [] → HasLeaf problem bounds context was new → IsAllBack (length root) context after → (share : ℕ) → IsWalked problem bounds share root Going heard now old new
-  ends_going context after h now was new told sent w hears none leaf b share =
+  pub ends_going : (context after : Context) (h now : History) (was new : Tally) (told sent : List ℕ) → IsWalking problem bounds root context history h old was → ExtendsBy h now [] told sent → sent ≡ [] → HasLeaf problem bounds context was new → IsAllBack (length root) context after → (share : ℕ) → IsWalked problem bounds share root Going history now old new
+  ends_going context after h now was new told sent w extends none leaf b share =
       let here : List Piece = leaf_piece (turns_taken context) leaf.outcome ∷ [] in
       let nothing = (back_at_root problem bounds root context after w.waiting w.waits b).0 in
       let all_told = w.told ++ told in
@@ -279,11 +280,11 @@ module _ (problem : ProblemValue) (bounds : Bounds) (root : Context) (heard : He
       let P : List Branch → Type 0 = λ bs. AllReplaced all_told more bs [] in
       let no_sat = sats_leaf (turns_taken context) leaf.outcome leaf.no_sat in
       let sats : sat_keys more ≡ [] = none_both (sat_keys w.passed) (sat_keys (here ++ [])) (sat_keys more) (sats_append w.passed (here ++ [])) w.no_sats no_sat in
-      finish context h now was new Going share here [] told [] w (hears_sent none hears) (leaf_replaced all_told more context w.own leaf.outcome w.tree leaf.tree) (subst P (sym nothing) refl) (gifts_leaf (turns_taken context) leaf.outcome) refl no_sat refl (omega arith) sats leaf.tally
+      finish context h now was new Going share here [] told [] w (extends_sent none extends) (leaf_replaced all_told more context w.own leaf.outcome w.tree leaf.tree) (subst P (sym nothing) refl) (gifts_leaf (turns_taken context) leaf.outcome) refl no_sat refl (omega arith) sats leaf.tally
 
   -- an exhausted leaf cuts what waits
-  pub ends_exhausted : (context : Context) (h now : Heard) (was new : Tally) (told sent : List ℕ) (cut_key : ℕ) → (w : IsWalking problem bounds root context heard h old was) → Hears h now [] told sent → sent ≡ cut_key ∷ [] → HasSat problem bounds context cut_key was new → ((leaves : List Piece) (nodes : List Turns) → IsTally bounds.list new leaves → IsTally bounds.list new (leaves ++ cuts cut_key nodes)) → (share : ℕ) → IsWalked problem bounds share root (Cutting cut_key) heard now old new
-  ends_exhausted context h now was new told sent cut_key w hears is sat takes share =
+  pub ends_exhausted : (context : Context) (h now : History) (was new : Tally) (told sent : List ℕ) (cut_key : ℕ) → (w : IsWalking problem bounds root context history h old was) → ExtendsBy h now [] told sent → sent ≡ cut_key ∷ [] → HasSat problem bounds context cut_key was new → ((leaves : List Piece) (nodes : List Turns) → IsTally bounds.list new leaves → IsTally bounds.list new (leaves ++ cuts cut_key nodes)) → (share : ℕ) → IsWalked problem bounds share root (Cutting cut_key) history now old new
+  ends_exhausted context h now was new told sent cut_key w extends is sat takes share =
       let turns_here = turns_taken context in
       let here : List Piece = piece.Sat turns_here context ∷ [] in
       let rest = cuts cut_key (nodes_of w.waiting) in
@@ -292,12 +293,12 @@ module _ (problem : ProblemValue) (bounds : Bounds) (root : Context) (heard : He
       let stands : IsIn (piece.Sat turns_here context) more = in_right (piece.Sat turns_here context) w.passed (here ++ rest) (0, refl) in
       let may : (t : Turns) → IsLeftOf turns_here t → MayCut all_told more cut_key t = λ t left. inr (turns_here, context, stands, sym sat.key_is, left) in
       let T : List Piece → Type 0 = λ ps. IsTally bounds.list new ps in
-      finish context h now was new (Cutting cut_key) share here rest told (cut_key ∷ []) w (hears_sent is hears) (leaf_replaced all_told more context w.own (Sat context) w.tree (is_exhausted sat.next)) (cut_rest all_told more cut_key turns_here may w.waiting (wait_right problem bounds root w.waits)) refl (gifts_cuts cut_key (nodes_of w.waiting)) (ap (λ (k : ℕ). k ∷ []) (sym sat.key_is)) (sats_cuts cut_key (nodes_of w.waiting)) (omega arith) (λ other left. may other (right_of_root w.waits other left))
+      finish context h now was new (Cutting cut_key) share here rest told (cut_key ∷ []) w (extends_sent is extends) (leaf_replaced all_told more context w.own (Sat context) w.tree (is_exhausted sat.next)) (cut_rest all_told more cut_key turns_here may w.waiting (wait_right problem bounds root w.waits)) refl (gifts_cuts cut_key (nodes_of w.waiting)) (ap (λ (k : ℕ). k ∷ []) (sym sat.key_is)) (sats_cuts cut_key (nodes_of w.waiting)) (omega arith) (λ other left. may other (right_of_root w.waits other left))
       (λ before t. subst T (append_assoc before here rest) (takes (before ++ here) (nodes_of w.waiting) (sat.tally before t)))
 
   -- a key that was told cuts the node and what waits
-  pub ends_cut : (context : Context) (h now : Heard) (was new : Tally) (told sent : List ℕ) (cut_key : ℕ) → (w : IsWalking problem bounds root context heard h old was) → Hears h now [] told sent → sent ≡ [] → IsIn cut_key told → cut_key < key (turns_taken context) → ((leaves : List Piece) (node : Turns) (nodes : List Turns) → IsTally bounds.list was leaves → IsTally bounds.list new (leaves ++ cuts cut_key (node ∷ nodes))) → (share : ℕ) → IsWalked problem bounds share root (Cutting cut_key) heard now old new
-  ends_cut context h now was new told sent cut_key w hears none in_told less takes share =
+  pub ends_cut : (context : Context) (h now : History) (was new : Tally) (told sent : List ℕ) (cut_key : ℕ) → (w : IsWalking problem bounds root context history h old was) → ExtendsBy h now [] told sent → sent ≡ [] → IsIn cut_key told → cut_key < key (turns_taken context) → ((leaves : List Piece) (node : Turns) (nodes : List Turns) → IsTally bounds.list was leaves → IsTally bounds.list new (leaves ++ cuts cut_key (node ∷ nodes))) → (share : ℕ) → IsWalked problem bounds share root (Cutting cut_key) history now old new
+  ends_cut context h now was new told sent cut_key w extends none in_told less takes share =
       let turns_here = turns_taken context in
       let here : List Piece = piece.Cut turns_here cut_key ∷ [] in
       let rest = cuts cut_key (nodes_of w.waiting) in
@@ -305,22 +306,22 @@ module _ (problem : ProblemValue) (bounds : Bounds) (root : Context) (heard : He
       let more : List Piece = w.passed ++ (here ++ rest) in
       let known : IsIn cut_key all_told = in_right cut_key w.told told in_told in
       let may : (t : Turns) → IsLeftOf turns_here t → MayCut all_told more cut_key t = λ t left. let rise = keys_rise turns_here t left in inl (known, omega (arith, less, rise)) in
-      finish context h now was new (Cutting cut_key) share here rest told [] w (hears_sent none hears) (cut (inl (known, less))) (cut_rest all_told more cut_key turns_here may w.waiting (wait_right problem bounds root w.waits)) refl (gifts_cuts cut_key (nodes_of w.waiting)) refl (sats_cuts cut_key (nodes_of w.waiting)) (omega arith) (λ other left. may other (right_of_root w.waits other left))
+      finish context h now was new (Cutting cut_key) share here rest told [] w (extends_sent none extends) (cut (inl (known, less))) (cut_rest all_told more cut_key turns_here may w.waiting (wait_right problem bounds root w.waits)) refl (gifts_cuts cut_key (nodes_of w.waiting)) refl (sats_cuts cut_key (nodes_of w.waiting)) (omega arith) (λ other left. may other (right_of_root w.waits other left))
       (λ before t. takes before turns_here (nodes_of w.waiting) t)
 
   -- memory is out at the node
-  pub ends_lost : (context : Context) (h now : Heard) (was new : Tally) (told sent : List ℕ) → (w : IsWalking problem bounds root context heard h old was) → Hears h now [] told sent → sent ≡ [] → ((leaves : List Piece) (node : Turns) (nodes : List Turns) → IsTally bounds.list was leaves → IsTally bounds.list new (leaves ++ losses (node ∷ nodes))) → (share : ℕ) → IsWalked problem bounds share root Lost heard now old new
-  ends_lost context h now was new told sent w hears none takes share =
+  pub ends_lost : (context : Context) (h now : History) (was new : Tally) (told sent : List ℕ) → (w : IsWalking problem bounds root context history h old was) → ExtendsBy h now [] told sent → sent ≡ [] → ((leaves : List Piece) (node : Turns) (nodes : List Turns) → IsTally bounds.list was leaves → IsTally bounds.list new (leaves ++ losses (node ∷ nodes))) → (share : ℕ) → IsWalked problem bounds share root Lost history now old new
+  ends_lost context h now was new told sent w extends none takes share =
       let here : List Piece = piece.NoMemory ∷ [] in
       let rest = losses (nodes_of w.waiting) in
       let all_told = w.told ++ told in
       let more : List Piece = w.passed ++ (here ++ rest) in
-      finish context h now was new Lost share here rest told [] w (hears_sent none hears) no_memory (lose_rest all_told more w.waiting) refl (gifts_losses (nodes_of w.waiting)) refl (sats_losses (nodes_of w.waiting)) (omega arith) tt
+      finish context h now was new Lost share here rest told [] w (extends_sent none extends) no_memory (lose_rest all_told more w.waiting) refl (gifts_losses (nodes_of w.waiting)) refl (sats_losses (nodes_of w.waiting)) (omega arith) tt
       (λ before t. takes before (turns_taken context) (nodes_of w.waiting) t)
 
   -- memory is out at the turn to the right
-  pub ends_lost_behind : (context mid : Context) (h now : Heard) (was new end : Tally) (told sent : List ℕ) → (w : IsWalking problem bounds root context heard h old was) → Hears h now [] told sent → sent ≡ [] → HasLeaf problem bounds context was new → IsBackAtLeft (length root) context mid → ((leaves : List Piece) (node : Turns) (nodes : List Turns) → IsTally bounds.list new leaves → IsTally bounds.list end (leaves ++ losses (node ∷ nodes))) → (share : ℕ) → IsWalked problem bounds share root Lost heard now old end
-  ends_lost_behind context mid h now was new end told sent w hears none leaf b takes share =
+  pub ends_lost_behind : (context mid : Context) (h now : History) (was new end : Tally) (told sent : List ℕ) → (w : IsWalking problem bounds root context history h old was) → ExtendsBy h now [] told sent → sent ≡ [] → HasLeaf problem bounds context was new → IsBackAtLeft (length root) context mid → ((leaves : List Piece) (node : Turns) (nodes : List Turns) → IsTally bounds.list new leaves → IsTally bounds.list end (leaves ++ losses (node ∷ nodes))) → (share : ℕ) → IsWalked problem bounds share root Lost history now old end
+  ends_lost_behind context mid h now was new end told sent w extends none leaf b takes share =
       let here : List Piece = leaf_piece (turns_taken context) leaf.outcome ∷ [] in
       let rest = losses (nodes_of w.waiting) in
       let all_told = w.told ++ told in
@@ -331,7 +332,7 @@ module _ (problem : ProblemValue) (bounds : Bounds) (root : Context) (heard : He
       let T : List Piece → Type 0 = λ ps. IsTally bounds.list end ps in
       let N : List Turns → Type 0 = λ ts. (before : List Piece) → IsTally bounds.list was before → IsTally bounds.list end ((before ++ here) ++ losses ts) in
       let add_all = subst N nodes (λ before t. takes (before ++ here) one (nodes_of beside_it.later) (leaf.tally before t)) in
-      finish context h now was end Lost share here rest told [] w (hears_sent none hears) (leaf_replaced all_told more context w.own leaf.outcome w.tree leaf.tree) (lose_rest all_told more w.waiting) (gifts_leaf (turns_taken context) leaf.outcome) (gifts_losses (nodes_of w.waiting)) (sats_leaf (turns_taken context) leaf.outcome leaf.no_sat) (sats_losses (nodes_of w.waiting)) (omega arith) tt
+      finish context h now was end Lost share here rest told [] w (extends_sent none extends) (leaf_replaced all_told more context w.own leaf.outcome w.tree leaf.tree) (lose_rest all_told more w.waiting) (gifts_leaf (turns_taken context) leaf.outcome) (gifts_losses (nodes_of w.waiting)) (sats_leaf (turns_taken context) leaf.outcome leaf.no_sat) (sats_losses (nodes_of w.waiting)) (omega arith) tt
       (λ before t. subst T (append_assoc before here rest) (add_all before t))
 
 -- ---- less is left

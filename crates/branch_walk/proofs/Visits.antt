@@ -1,5 +1,6 @@
 -- What a visit of a node adds to the tally.
-use Rattle.std.proofs.Common.{ℕ, List, [], ◌∷◌, ◌++◌, append-nil, refl, ap, ◌∙◌}
+use Rattle.std.proofs.Common.{◌≡◌, ℕ, Bool, true, false, List, [], ◌∷◌, ◌++◌, Option, append-nil, refl, sym, ap, ◌∙◌}
+use Rattle.std.specs.Prelude.{option_to_list}
 use Rattle.me_terms.specs.Values.{ProblemValue, InstanceValue}
 use Rattle.me_terms.specs.Context.{Context}
 use Rattle.me_terms.specs.Grown.{IsGrown}
@@ -10,20 +11,62 @@ use Rattle.me_terms.specs.declared.bounds.Bound.{Bound}
 use Rattle.me_terms.specs.declared.bounds.Bounds.{Bounds}
 use Rattle.me_laws.proofs.Backed.{grown_backed}
 use Rattle.me_laws_existence.proofs.Outcomes.{leaf_list}
+use Rattle.branch_core.specs.Hooks.{ExtendsBy, History, after_gift, after_look, after_post}
 use Rattle.branch_core.specs.Paths.{Turns}
+use Rattle.branch_core.specs.declared.hook.Give.{Give}
+use Rattle.branch_core.specs.declared.hook.Give.TheVariants.{Away, NoRoom, NotNew}
 use Rattle.branch_core.specs.Pieces.{Piece}
 use Rattle.branch_core.specs.Pieces as piece
 use Rattle.branch_core.specs.SearchTree.{closes, is_bounded}
 use Rattle.branch_walk.specs.Tallies.{IsTally, TakesOwnLeaf}
-use Rattle.branch_walk.specs.Walks.{Heard, Hears, HasLeaf}
+use Rattle.branch_walk.specs.Walks.{gift_if, HasLeaf}
 use Rattle.branch_walk.specs.declared.tally.Tally.{Tally}
 
-pub hears_then : {a b c : Heard} {told sent : List ℕ} → Hears a b [] told [] → Hears b c [] [] sent → Hears a c [] told sent
-hears_then {a} {b} {c} {told} {sent} f g = record {
-  given = g.given ∙ (ap (λ (x : List Turns). x ++ []) f.given ∙ append-nil (a.given ++ []));
-  seen = g.seen ∙ (ap (λ (x : List ℕ). x ++ []) f.seen ∙ append-nil (a.seen ++ told));
-  posted = g.posted ∙ (ap (λ (x : List ℕ). x ++ sent) f.posted ∙ ap (λ (x : List ℕ). x ++ sent) (append-nil a.posted));
+pub extends_then : {a b c : History} {told sent : List ℕ} → ExtendsBy a b [] told [] → ExtendsBy b c [] [] sent → ExtendsBy a c [] told sent
+extends_then {a} {b} {c} {told} {sent} f g = record {
+  given_are = g.given_are ∙ (ap (λ (x : List Turns). x ++ []) f.given_are ∙ append-nil (a.given ++ []));
+  told_are = g.told_are ∙ (ap (λ (x : List ℕ). x ++ []) f.told_are ∙ append-nil (a.told ++ told));
+  posted_are = g.posted_are ∙ (ap (λ (x : List ℕ). x ++ sent) f.posted_are ∙ ap (λ (x : List ℕ). x ++ sent) (append-nil a.posted));
 }
+
+-- the walk asked for the least key
+pub extends_look : {a b : History} (least : Option ℕ) → b ≡ after_look a least → ExtendsBy a b [] (option_to_list least) []
+extends_look {a} {b} least is = record {
+  given_are = ap (λ (h : History). h.given) is ∙ sym (append-nil a.given);
+  told_are = ap (λ (h : History). h.told) is;
+  posted_are = ap (λ (h : History). h.posted) is ∙ sym (append-nil a.posted);
+}
+
+-- the walk posted a key
+pub extends_post : {a b : History} (k : ℕ) → b ≡ after_post a k → ExtendsBy a b [] [] (k ∷ [])
+extends_post {a} {b} k is = record {
+  given_are = ap (λ (h : History). h.given) is ∙ sym (append-nil a.given);
+  told_are = ap (λ (h : History). h.told) is ∙ sym (append-nil a.told);
+  posted_are = ap (λ (h : History). h.posted) is;
+}
+
+-- nothing passed
+extends_same : {a b : History} → b ≡ a → ExtendsBy a b [] [] []
+extends_same {a} {b} is = record {
+  given_are = ap (λ (h : History). h.given) is ∙ sym (append-nil a.given);
+  told_are = ap (λ (h : History). h.told) is ∙ sym (append-nil a.told);
+  posted_are = ap (λ (h : History). h.posted) is ∙ sym (append-nil a.posted);
+}
+
+-- the walk gave a path away, or did not
+abbrev pub went_away : {J : Type 0} → Give J → Bool
+went_away Away = true
+went_away (NoRoom work) = false
+went_away (NotNew work word) = false
+
+pub extends_gift : {J : Type 0} {a b : History} (path : Turns) (answer : Give J) → b ≡ after_gift a path answer → ExtendsBy a b (gift_if (went_away answer) path) [] []
+extends_gift {J} {a} {b} path Away is = record {
+  given_are = ap (λ (h : History). h.given) is;
+  told_are = ap (λ (h : History). h.told) is ∙ sym (append-nil a.told);
+  posted_are = ap (λ (h : History). h.posted) is ∙ sym (append-nil a.posted);
+}
+extends_gift {J} {a} {b} path (NoRoom work) is = extends_same is
+extends_gift {J} {a} {b} path (NotNew work word) is = extends_same is
 
 pub closed_leaf : (problem : ProblemValue) (bounds : Bounds) (context : Context) → IsGrown problem bounds context → (c : ℕ) (tuple : List ℕ) → IsNext problem bounds context (Close c tuple) → (old new : Tally) → TakesOwnLeaf new → ((leaves : List Piece) (list : List InstanceValue) → IsTally bounds.list old leaves → IsLeafList problem context c tuple list → IsTally bounds.list new (leaves ++ piece.Closed list ∷ [])) → HasLeaf problem bounds context old new
 closed_leaf problem bounds context grown c tuple next old new is_open adds =

@@ -10,6 +10,7 @@ use Rattle.me_terms.specs.Outcome.{TreeOutcome}
 use Rattle.me_terms.specs.declared.bounds.Bounds.{Bounds}
 use Rattle.me_terms.specs.declared.entry.Kind.{Kind}
 use Rattle.me_terms.specs.declared.atom.Literal.{Literal}
+use Rattle.branch_core.specs.Hooks.{ExtendsBy, History}
 use Rattle.branch_core.specs.Paths.{Turns, key, IsLeftOf}
 use Rattle.branch_core.specs.Pieces.{Piece, Sat, leaf_piece}
 use Rattle.branch_core.specs.Replaced.{Replaced}
@@ -24,18 +25,6 @@ use Rattle.branch_walk.specs.declared.state.State.TheVariants.{Going, Cutting, L
 use Rattle.branch_walk.specs.declared.state.Visit.{Visit}
 use Rattle.branch_walk.specs.declared.state.Visit.TheVariants as visit
 
--- What a hook was given, what it told, and what was posted to it.
-pub record Heard : Type 0 where
-  pub given : List Turns
-  pub seen : List ℕ
-  pub posted : List ℕ
-
--- From the one to the other these paths were given away, these keys were told, and these posted.
-pub record Hears (old new : Heard) (gave : List Turns) (told sent : List ℕ) : Type 0 where
-  pub given : new.given ≡ old.given ++ gave
-  pub seen : new.seen ≡ old.seen ++ told
-  pub posted : new.posted ≡ old.posted ++ sent
-
 -- The tally takes in what follows in this state.
 abbrev pub IsReady : State → Tally → Type 0
 IsReady Going tally = TakesOwnLeaf tally
@@ -49,14 +38,14 @@ GoesOn (Cutting cut_key) told pieces turns = (other : Turns) → IsLeftOf turns 
 GoesOn Lost told pieces turns = Unit {0}
 
 -- The tree of the context was walked and ended in this state. Its pieces came to the tally, and say what was given away and posted.
-pub record IsWalked (problem : ProblemValue) (bounds : Bounds) (share : ℕ) (context : Context) (state : State) (heard now_heard : Heard) (old new : Tally) : Type 0 where
+pub record IsWalked (problem : ProblemValue) (bounds : Bounds) (share : ℕ) (context : Context) (state : State) (history now_history : History) (old new : Tally) : Type 0 where
   pub own : SearchTree
   pub tree : IsSearchTree problem bounds context own
   pub more : List Piece
   pub gave : List Turns
   pub told : List ℕ
   pub sent : List ℕ
-  pub hears : Hears heard now_heard gave told sent
+  pub extends : ExtendsBy history now_history gave told sent
   pub replaced : Replaced (MayCut told more) (turns_taken context) own more
   pub gifts_are : gave ≡ reverse (gifts more)
   pub lawful : All (MayBeGiven share (turns_taken context)) gave
@@ -119,14 +108,14 @@ gift_if true right = right ∷ []
 gift_if false right = []
 
 -- A walk went from the node into the left branch of its Split, which begins at the base, and ended there in this state. Before that the right child went away, or did not.
-pub record HasWalkedLeft (problem : ProblemValue) (bounds : Bounds) (share : ℕ) (away : Bool) (right : Turns) (base : ℕ) (state : State) (stands_at node : Context) (start now_heard : Heard) (first now : Tally) : Type 0 where
+pub record HasWalkedLeft (problem : ProblemValue) (bounds : Bounds) (share : ℕ) (away : Bool) (right : Turns) (base : ℕ) (state : State) (stands_at node : Context) (start now_history : History) (first now : Tally) : Type 0 where
   pub left : Context
-  pub heard : Heard
+  pub history : History
   pub grown : IsGrown problem bounds node
   pub split : IsLeftOfSplit problem bounds node left
   pub right_is : right ≡ turns_taken node ++ true ∷ []
   pub few : length right ≤ share
   pub at_base : length left ≡ base
-  pub went : Hears start heard (gift_if away right) [] []
+  pub went : ExtendsBy start history (gift_if away right) [] []
   pub stands : state ≡ Going → (later : Context) × (stands_at ≡ left ++ later)
-  pub walked : IsWalked problem bounds share left state heard now_heard first now
+  pub walked : IsWalked problem bounds share left state history now_history first now

@@ -22,11 +22,7 @@ impl Alone {
 }
 
 impl<J> Hook<J> for Alone {
-    ghost given = { λ _. [] };
-
-    ghost seen = { λ _. [] };
-
-    ghost posted = { λ a. a.notes.keys };
+    ghost history = { λ a. record { given = []; told = []; posted = a.notes.keys } };
 
     ghost may_give = { λ _ _ _. Unit {0} };
 

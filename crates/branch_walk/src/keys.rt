@@ -1,10 +1,9 @@
 //! The key of the node at which a branch stands.
 ghost use Rattle.std.specs.Prelude.{◌≡◌, ◌<◌, ◌++◌, ◌∷◌, [], ℕ, List, length, IfSome, MatchOption};
-ghost use Rattle.branch_core.specs.Hooks.{SameGifts};
+ghost use Rattle.branch_core.specs.Hooks.{ExtendsBy, SameGifts};
 ghost use Rattle.branch_core.specs.Paths.{key};
 ghost use Rattle.branch_core.specs.Whole.{IsIn};
 ghost use Rattle.branch_walk.specs.Jobs.{turn_of, turns_taken};
-ghost use Rattle.branch_walk.specs.Walks.{Hears};
 
 use branch_core::{Hook, Path, key_of};
 use me_terms::{Entry, Reason, View};
@@ -39,7 +38,7 @@ pub fn node_key<V: View>(branch: &V) -> u16
 
 /// The least key that the hook tells, where it is smaller than that of the branch's node.
 pub(crate) fn told_cut<V: View, J, H: Hook<J>>(branch: &V, hook: &mut H) -> Option<u16>
-    ensures told { (told : List ℕ) × Hears (record { given = H.given hook.old; seen = H.seen hook.old; posted = H.posted hook.old }) (record { given = H.given hook.new; seen = H.seen hook.new; posted = H.posted hook.new }) [] told [] × IfSome result (λ cut_key. IsIn cut_key told × (cut_key < key (turns_taken (V.context branch.now)))) }
+    ensures told { (told : List ℕ) × ExtendsBy (H.history hook.old) (H.history hook.new) [] told [] × IfSome result (λ cut_key. IsIn cut_key told × (cut_key < key (turns_taken (V.context branch.now)))) }
     ensures condition { SameGifts (H.may_give hook.old) (H.may_give hook.new) }
 {
     match hook.least() {

@@ -1,14 +1,12 @@
 //! The walk of a portion, from left to right.
 //!
 //! Near its path it gives right children away; what comes back and all that lies deeper it walks itself.
-ghost use Rattle.std.specs.Prelude.{◌≡◌, ◌≤◌, ◌++◌, ◌∷◌, [], ℕ, List, length};
+ghost use Rattle.std.specs.Prelude.{◌≡◌, ◌≤◌, [], length};
 ghost use Rattle.me_terms.specs.Validity.{IsLawful, IsValid};
-ghost use Rattle.me_terms.specs.Grown.{start};
 ghost use Rattle.branch_core.specs.Hooks.{SameGifts};
 ghost use Rattle.branch_core.specs.Paths.{Turns};
-ghost use Rattle.branch_core.specs.SearchTree.{SearchTree, IsSearchTree};
 ghost use Rattle.branch_walk.specs.Jobs.{IsJob};
-ghost use Rattle.branch_core.specs.Portions.{MayBeGiven, IsPortion};
+ghost use Rattle.branch_core.specs.Portions.{TakesGifts, HandsBackPortion};
 ghost use Rattle.branch_walk.specs.declared.job.Job.{Job as JobOf};
 
 use crate::job::Job;
@@ -37,15 +35,16 @@ pub fn walk_portion<T: Trunk, H: Hook<Job<T>>>(
     requires valid { IsValid problem.now }
     requires bounds { IsLawful bounds.now }
     requires share { share ≤ 16 }
-    // It is a job of the tree, and the hook takes each job of the same tree at a path that may be given away.
-    requires job { IsJob problem.now bounds.now job.path (T.context job.branch) × ((gift : Turns) (work : JobOf T) → MayBeGiven share job.path gift → IsJob problem.now bounds.now gift (T.context work.branch) → work.path ≡ gift → H.may_give hook.old gift work) }
+    requires job { IsJob problem.now bounds.now job.path (T.context job.branch) }
+    // The hook takes each job of the same tree at a path that may be given away.
+    requires hook { TakesGifts share job.path (λ (work : JobOf T). work.path) (λ (gift : Turns) (work : JobOf T). IsJob problem.now bounds.now gift (T.context work.branch)) (H.may_give hook.old) }
     requires empty { room.items ≡ [] }
     requires room { 40 ≤ room.spare }
     ensures path { result.path ≡ job.path }
     ensures few { length result.parts ≤ 40 }
-    ensures portion { (told posted : List ℕ) × (given : List Turns) × (H.seen hook.new ≡ H.seen hook.old ++ told) × (H.given hook.new ≡ H.given hook.old ++ given) × (H.posted hook.new ≡ H.posted hook.old ++ posted) × ((search : SearchTree) → IsSearchTree problem.now bounds.now (start bounds.now.start) search → IsPortion bounds.now.list share search job.path told given posted result) }
+    ensures portion { HandsBackPortion problem.now bounds.now share job.path (H.history hook.old) (H.history hook.new) result }
     // Where nothing may be given and no key was told, all that was found is one part.
-    ensures one_part { share ≡ 0 → H.seen hook.new ≡ H.seen hook.old → length result.parts ≤ 1 }
+    ensures one_part { share ≡ 0 → (H.history hook.new).told ≡ (H.history hook.old).told → length result.parts ≤ 1 }
     ensures condition { SameGifts (H.may_give hook.old) (H.may_give hook.new) }
 {
     let search = Search {

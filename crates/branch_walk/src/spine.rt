@@ -1,16 +1,16 @@
 //! The walk near the path of a job, which gives right children away.
-ghost use Rattle.std.specs.Prelude.{◌≡◌, ◌<◌, ◌≤◌, ◌+◌, ◌-◌, ◌*◌, ◌++◌, ◌∷◌, [], ℕ, true, false, List, length, IfOk, MatchOption, if◌then◌else◌};
+ghost use Rattle.std.specs.Prelude.{◌≡◌, ◌<◌, ◌≤◌, ◌+◌, ◌-◌, ◌*◌, ◌++◌, ◌∷◌, [], ℕ, true, false, List, length, IfOk, MatchOption};
 ghost use Rattle.me_terms.specs.Validity.{IsLawful, IsValid};
 ghost use Rattle.me_terms.specs.Context.{Context};
 ghost use Rattle.me_terms.specs.Grown.{IsGrown};
-ghost use Rattle.branch_core.specs.Hooks.{SameGifts};
+ghost use Rattle.branch_core.specs.Hooks.{ExtendsBy, History, SameGifts};
 ghost use Rattle.branch_core.specs.Paths.{Turns};
 ghost use Rattle.branch_core.specs.Pieces.{Piece};
 ghost use Rattle.branch_walk.specs.Jobs.{IsJob, turns_taken};
-ghost use Rattle.branch_core.specs.Portions.{MayBeGiven};
+ghost use Rattle.branch_core.specs.Portions.{TakesGifts};
 ghost use Rattle.branch_walk.specs.Along.{IsOf};
 ghost use Rattle.branch_walk.specs.Tallies.{IsTally, AddsAtMost, HasSpare, TakesOwnLeaf};
-ghost use Rattle.branch_walk.specs.Walks.{HasWalkedLeft, Hears, Heard, IsBeside, IsLeftOfSplit, IsReady, IsWalked, LeadsTo};
+ghost use Rattle.branch_walk.specs.Walks.{gift_if, HasWalkedLeft, IsBeside, IsLeftOfSplit, IsReady, IsWalked, LeadsTo};
 ghost use Rattle.branch_walk.specs.declared.job.Job.{Job as JobOf};
 ghost use Rattle.branch_walk.specs.declared.state.State.TheVariants.{Going};
 ghost use Rattle.branch_walk.specs.declared.tally.Tally.{Tally as TallyOf};
@@ -70,11 +70,11 @@ impl<'a> Search<'a> {
         requires open { TakesOwnLeaf tally.old }
         requires kept { (before : List Piece) × IsTally self.now.bounds.now.list tally.old before }
         requires room { HasSpare (2 * (share - length path) + 1) tally.old }
-        requires hook { (gift : Turns) (work : JobOf T) → MayBeGiven share path gift → IsJob self.now.problem.now self.now.bounds.now gift (T.context work.branch) → work.path ≡ gift → H.may_give hook.old gift work }
-        ensures walked { IsWalked self.now.problem.now self.now.bounds.now share (T.context branch) result (record { given = H.given hook.old; seen = H.seen hook.old; posted = H.posted hook.old }) (record { given = H.given hook.new; seen = H.seen hook.new; posted = H.posted hook.new }) tally.old tally.new }
+        requires hook { TakesGifts share path (λ (work : JobOf T). work.path) (λ (gift : Turns) (work : JobOf T). IsJob self.now.problem.now self.now.bounds.now gift (T.context work.branch)) (H.may_give hook.old) }
+        ensures walked { IsWalked self.now.problem.now self.now.bounds.now share (T.context branch) result (H.history hook.old) (H.history hook.new) tally.old tally.new }
         ensures ready { IsReady result tally.new }
         ensures pushes { AddsAtMost (2 * (share - length path) + 1) tally.old tally.new }
-        ensures quiet { share ≤ length path → H.seen hook.new ≡ H.seen hook.old → AddsAtMost 0 tally.old tally.new }
+        ensures quiet { share ≤ length path → (H.history hook.new).told ≡ (H.history hook.old).told → AddsAtMost 0 tally.old tally.new }
         ensures condition { SameGifts (H.may_give hook.old) (H.may_give hook.new) }
     {
         match KeptBranch::new(self, branch) {
@@ -104,13 +104,13 @@ impl<'a> Search<'a> {
         requires open { TakesOwnLeaf tally.old }
         requires kept { (before : List Piece) × IsTally self.now.bounds.now.list tally.old before }
         requires room { HasSpare (2 * (share - length path) + 1) tally.old }
-        requires hook { (gift : Turns) (work : JobOf T) → MayBeGiven share path gift → IsJob self.now.problem.now self.now.bounds.now gift (T.context work.branch) → work.path ≡ gift → H.may_give hook.old gift work }
+        requires hook { TakesGifts share path (λ (work : JobOf T). work.path) (λ (gift : Turns) (work : JobOf T). IsJob self.now.problem.now self.now.bounds.now gift (T.context work.branch)) (H.may_give hook.old) }
         ensures of { IsOf self.now.problem.now self.now.bounds.now branch.new }
-        ensures walked { IsWalked self.now.problem.now self.now.bounds.now share branch.old.context result (record { given = H.given hook.old; seen = H.seen hook.old; posted = H.posted hook.old }) (record { given = H.given hook.new; seen = H.seen hook.new; posted = H.posted hook.new }) tally.old tally.new }
+        ensures walked { IsWalked self.now.problem.now self.now.bounds.now share branch.old.context result (H.history hook.old) (H.history hook.new) tally.old tally.new }
         ensures ready { IsReady result tally.new }
         ensures stands { result ≡ Going → (later : Context) × (branch.new.context ≡ branch.old.context ++ later) }
         ensures pushes { AddsAtMost (2 * (share - length path) + 1) tally.old tally.new }
-        ensures quiet { share ≤ length path → H.seen hook.new ≡ H.seen hook.old → AddsAtMost 0 tally.old tally.new }
+        ensures quiet { share ≤ length path → (H.history hook.new).told ≡ (H.history hook.old).told → AddsAtMost 0 tally.old tally.new }
         ensures condition { SameGifts (H.may_give hook.old) (H.may_give hook.new) }
     {
         if u32::from(turn_count(path)) >= share {
@@ -142,7 +142,7 @@ impl<'a> Search<'a> {
         requires kept { (before : List Piece) × IsTally self.now.bounds.now.list tally.old before }
         requires room { HasSpare 1 tally.old }
         ensures of { IsOf self.now.problem.now self.now.bounds.now branch.new }
-        ensures ended { MatchOption result ((told : List ℕ) × (node : Context) × Hears (record { given = H.given hook.old; seen = H.seen hook.old; posted = H.posted hook.old }) (record { given = H.given hook.new; seen = H.seen hook.new; posted = H.posted hook.new }) [] told [] × LeadsTo self.now.problem.now self.now.bounds.now branch.old.context node × IsLeftOfSplit self.now.problem.now self.now.bounds.now node branch.new.context × (tally.new ≡ tally.old) × ((later : Context) × (node ≡ branch.old.context ++ later))) (λ state. ((share : ℕ) → IsWalked self.now.problem.now self.now.bounds.now share branch.old.context state (record { given = H.given hook.old; seen = H.seen hook.old; posted = H.posted hook.old }) (record { given = H.given hook.new; seen = H.seen hook.new; posted = H.posted hook.new }) tally.old tally.new) × IsReady state tally.new × (state ≡ Going → (later : Context) × (branch.new.context ≡ branch.old.context ++ later))) }
+        ensures ended { MatchOption result ((told : List ℕ) × (node : Context) × ExtendsBy (H.history hook.old) (H.history hook.new) [] told [] × LeadsTo self.now.problem.now self.now.bounds.now branch.old.context node × IsLeftOfSplit self.now.problem.now self.now.bounds.now node branch.new.context × (tally.new ≡ tally.old) × ((later : Context) × (node ≡ branch.old.context ++ later))) (λ state. ((share : ℕ) → IsWalked self.now.problem.now self.now.bounds.now share branch.old.context state (H.history hook.old) (H.history hook.new) tally.old tally.new) × IsReady state tally.new × (state ≡ Going → (later : Context) × (branch.new.context ≡ branch.old.context ++ later))) }
         ensures pushes { AddsAtMost 1 tally.old tally.new }
         ensures condition { SameGifts (H.may_give hook.old) (H.may_give hook.new) }
     {
@@ -169,9 +169,7 @@ impl<'a> Search<'a> {
         requires bounds { IsLawful self.now.bounds.now }
         requires beside { IsBeside self.now.problem.now self.now.bounds.now right (T.context branch.now) }
         requires hook { (work : JobOf T) → IsJob self.now.problem.now self.now.bounds.now right (T.context work.branch) → work.path ≡ right → H.may_give hook.old right work }
-        ensures given { H.given hook.new ≡ (if result then H.given hook.old ++ right ∷ [] else H.given hook.old) }
-        ensures seen { H.seen hook.new ≡ H.seen hook.old }
-        ensures posted { H.posted hook.new ≡ H.posted hook.old }
+        ensures went { ExtendsBy (H.history hook.old) (H.history hook.new) (gift_if result right) [] [] }
         ensures condition { SameGifts (H.may_give hook.old) (H.may_give hook.new) }
     {
         match self.right_job(right, branch) {
@@ -212,9 +210,9 @@ impl<'a> Search<'a> {
         requires ready { IsReady state tally.old }
         requires kept { (before : List Piece) × IsTally self.now.bounds.now.list tally.old before }
         requires room { HasSpare 2 tally.old }
-        requires left { (share : ℕ) × (node : Context) × (start : Heard) × (first : TallyOf) × HasWalkedLeft self.now.problem.now self.now.bounds.now share away right base state branch.old.context node start (record { given = H.given hook.old; seen = H.seen hook.old; posted = H.posted hook.old }) first tally.old }
+        requires left { (share : ℕ) × (node : Context) × (start : History) × (first : TallyOf) × HasWalkedLeft self.now.problem.now self.now.bounds.now share away right base state branch.old.context node start (H.history hook.old) first tally.old }
         ensures of { IsOf self.now.problem.now self.now.bounds.now branch.new }
-        ensures walked { (share : ℕ) (node : Context) (start : Heard) (first : TallyOf) → HasWalkedLeft self.now.problem.now self.now.bounds.now share away right base state branch.old.context node start (record { given = H.given hook.old; seen = H.seen hook.old; posted = H.posted hook.old }) first tally.old → IsWalked self.now.problem.now self.now.bounds.now share node result start (record { given = H.given hook.new; seen = H.seen hook.new; posted = H.posted hook.new }) first tally.new × (result ≡ Going → (later : Context) × (branch.new.context ≡ node ++ later)) }
+        ensures walked { (share : ℕ) (node : Context) (start : History) (first : TallyOf) → HasWalkedLeft self.now.problem.now self.now.bounds.now share away right base state branch.old.context node start (H.history hook.old) first tally.old → IsWalked self.now.problem.now self.now.bounds.now share node result start (H.history hook.new) first tally.new × (result ≡ Going → (later : Context) × (branch.new.context ≡ node ++ later)) }
         ensures ready { IsReady result tally.new }
         ensures pushes { AddsAtMost 2 tally.old tally.new }
         ensures condition { SameGifts (H.may_give hook.old) (H.may_give hook.new) }

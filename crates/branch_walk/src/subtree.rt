@@ -37,11 +37,11 @@ impl<'a> Search<'a> {
         requires kept { (before : List Piece) × IsTally self.now.bounds.now.list tally.old before }
         requires room { HasSpare 1 tally.old }
         ensures of { IsOf self.now.problem.now self.now.bounds.now branch.new }
-        ensures walked { (share : ℕ) → IsWalked self.now.problem.now self.now.bounds.now share branch.old.context result (record { given = H.given hook.old; seen = H.seen hook.old; posted = H.posted hook.old }) (record { given = H.given hook.new; seen = H.seen hook.new; posted = H.posted hook.new }) tally.old tally.new }
+        ensures walked { (share : ℕ) → IsWalked self.now.problem.now self.now.bounds.now share branch.old.context result (H.history hook.old) (H.history hook.new) tally.old tally.new }
         ensures ready { IsReady result tally.new }
         ensures stands { result ≡ Going → branch.new.context ≡ branch.old.context }
         ensures pushes { AddsAtMost 1 tally.old tally.new }
-        ensures quiet { H.seen hook.new ≡ H.seen hook.old → AddsAtMost 0 tally.old tally.new }
+        ensures quiet { (H.history hook.new).told ≡ (H.history hook.old).told → AddsAtMost 0 tally.old tally.new }
         ensures condition { SameGifts (H.may_give hook.old) (H.may_give hook.new) }
     {
         let base = branch.len();

@@ -6,11 +6,11 @@ ghost use Rattle.me_terms.specs.Validity.{IsLawful, IsValid};
 ghost use Rattle.me_terms.specs.Grown.{IsGrown};
 ghost use Rattle.me_terms.specs.Next.{IsNext, Exhausted};
 ghost use Rattle.next_rule.specs.NextLaws.{IsAddedBy, MayBeAdded};
-ghost use Rattle.branch_core.specs.Hooks.{SameGifts};
+ghost use Rattle.branch_core.specs.Hooks.{ExtendsBy, SameGifts};
 ghost use Rattle.branch_core.specs.Pieces.{Piece};
 ghost use Rattle.branch_walk.specs.Along.{IsOf};
 ghost use Rattle.branch_walk.specs.Tallies.{IsTally, AddsAtMost, TakesOwnLeaf};
-ghost use Rattle.branch_walk.specs.Walks.{Hears, IsVisited};
+ghost use Rattle.branch_walk.specs.Walks.{IsVisited};
 
 use crate::job::Job;
 use crate::kept::KeptBranch;
@@ -37,7 +37,7 @@ impl<'a> Search<'a> {
         requires open { TakesOwnLeaf tally.old }
         requires kept { (before : List Piece) × IsTally self.now.bounds.now.list tally.old before }
         ensures of { IsOf self.now.problem.now self.now.bounds.now branch.new }
-        ensures visited { (told sent : List ℕ) × Hears (record { given = H.given hook.old; seen = H.seen hook.old; posted = H.posted hook.old }) (record { given = H.given hook.new; seen = H.seen hook.new; posted = H.posted hook.new }) [] told sent × IsVisited self.now.problem.now self.now.bounds.now branch.old.context branch.new.context tally.old tally.new told sent result }
+        ensures visited { (told sent : List ℕ) × ExtendsBy (H.history hook.old) (H.history hook.new) [] told sent × IsVisited self.now.problem.now self.now.bounds.now branch.old.context branch.new.context tally.old tally.new told sent result }
         ensures pushes { AddsAtMost 0 tally.old tally.new }
         ensures condition { SameGifts (H.may_give hook.old) (H.may_give hook.new) }
     {
@@ -67,7 +67,7 @@ impl<'a> Search<'a> {
         requires next { IsNext self.now.problem.now self.now.bounds.now branch.old.context (next_value next) }
         requires added { (e : EntryValue) → IsAddedBy (next_value next) e → MayBeAdded self.now.bounds.now branch.old.context e }
         ensures of { IsOf self.now.problem.now self.now.bounds.now branch.new }
-        ensures visited { (sent : List ℕ) × Hears (record { given = H.given hook.old; seen = H.seen hook.old; posted = H.posted hook.old }) (record { given = H.given hook.new; seen = H.seen hook.new; posted = H.posted hook.new }) [] [] sent × ((told : List ℕ) → IsVisited self.now.problem.now self.now.bounds.now branch.old.context branch.new.context tally.old tally.new told sent result) }
+        ensures visited { (sent : List ℕ) × ExtendsBy (H.history hook.old) (H.history hook.new) [] [] sent × ((told : List ℕ) → IsVisited self.now.problem.now self.now.bounds.now branch.old.context branch.new.context tally.old tally.new told sent result) }
         ensures pushes { AddsAtMost 0 tally.old tally.new }
         ensures condition { SameGifts (H.may_give hook.old) (H.may_give hook.new) }
     {
@@ -110,7 +110,7 @@ impl<'a> Search<'a> {
     ) -> Visit
         requires open { TakesOwnLeaf tally.old }
         requires next { IsNext self.now.problem.now self.now.bounds.now (V.context branch.now) Exhausted }
-        ensures visited { (sent : List ℕ) × Hears (record { given = H.given hook.old; seen = H.seen hook.old; posted = H.posted hook.old }) (record { given = H.given hook.new; seen = H.seen hook.new; posted = H.posted hook.new }) [] [] sent × ((told : List ℕ) → IsVisited self.now.problem.now self.now.bounds.now (V.context branch.now) (V.context branch.now) tally.old tally.new told sent result) }
+        ensures visited { (sent : List ℕ) × ExtendsBy (H.history hook.old) (H.history hook.new) [] [] sent × ((told : List ℕ) → IsVisited self.now.problem.now self.now.bounds.now (V.context branch.now) (V.context branch.now) tally.old tally.new told sent result) }
         ensures pushes { AddsAtMost 0 tally.old tally.new }
         ensures condition { SameGifts (H.may_give hook.old) (H.may_give hook.new) }
     {

@@ -85,20 +85,20 @@ module _ (q : ExplorerTree) where
     pub walk_books : (path : Turns) (r : RecordValue) (old mid new : WorkerSeatValue) → IsTaking q words lacks records path old → IsWalked q path r old mid → new ≡ record mid { ended = mid.ended ++ path ∷ [] } → IsKept q words lacks (records ++ r ∷ []) new
     walk_books path r old mid new taking w is =
         let paths : record_paths (records ++ r ∷ []) ≡ record_paths records ++ path ∷ [] = map-append (λ (z : RecordValue). z.path) records (r ∷ []) ∙ ap (λ (t : Turns). record_paths records ++ t ∷ []) w.path_is in
-        let one : HasAccounts q (r ∷ []) w.given w.posted w.told = λ search tree.
-        let p = w.portion search tree in (record { path = path; pieces = p.pieces } ∷ [], fits_one q.bounds.list q.share search path w.told w.given w.posted r p, ap (λ (z : RecordValue). z ∷ []) p.record_is) in
+        let one : HasAccounts q (r ∷ []) w.portion.given w.portion.posted w.portion.told = λ search tree.
+        let p = w.portion.portion search tree in (record { path = path; pieces = p.pieces } ∷ [], fits_one q.bounds.list q.share search path w.portion.told w.portion.given w.portion.posted r p, ap (λ (z : RecordValue). z ∷ []) p.record_is) in
         subst (IsKept q words lacks (records ++ r ∷ [])) (sym is) (record {
           of_words = w.same.words ∙ taking.of_words;
           raised = w.raised;
           booked = λ h.
-              let both = accounts_both records (r ∷ []) old.offered w.given old.posted w.posted (told_of old.looked) w.told (taking.accounts h) one in
-              let A : List Turns → Type 0 = λ l. HasAccounts q (records ++ r ∷ []) l (old.posted ++ w.posted) (told_of old.looked ++ w.told) in
-              let B : List ℕ → Type 0 = λ l. HasAccounts q (records ++ r ∷ []) mid.offered l (told_of old.looked ++ w.told) in
+              let both = accounts_both records (r ∷ []) old.offered w.portion.given old.posted w.portion.posted (told_of old.looked) w.portion.told (taking.accounts h) one in
+              let A : List Turns → Type 0 = λ l. HasAccounts q (records ++ r ∷ []) l (old.posted ++ w.portion.posted) (told_of old.looked ++ w.portion.told) in
+              let B : List ℕ → Type 0 = λ l. HasAccounts q (records ++ r ∷ []) mid.offered l (told_of old.looked ++ w.portion.told) in
               let C : List ℕ → Type 0 = λ l. HasAccounts q (records ++ r ∷ []) mid.offered mid.posted l in
               record {
                 taken = w.taken ∙ taking.taken h ∙ sym paths;
                 ended = ap (λ (l : List Turns). l ++ path ∷ []) (w.ended ∙ taking.ended h) ∙ sym paths;
-                accounts = subst C (sym w.told_are) (subst B (sym w.posted_are) (subst A (sym w.given_are) both));
+                accounts = subst C (sym w.portion.extends.told_are) (subst B (sym w.portion.extends.posted_are) (subst A (sym w.portion.extends.given_are) both));
               };
         })
 

@@ -1,13 +1,14 @@
 -- Keys among what was looked at.
-use Rattle.std.proofs.Common.{◌≡◌, ℕ, ◌+◌, ◌<◌, ◌≤◌, inl, inr, Bool, true, false, nat_le, List, [], ◌∷◌, ◌++◌, refl, sym, subst, ap, ◌∙◌, arith}
+use Rattle.std.proofs.Common.{◌≡◌, ℕ, ◌+◌, ◌<◌, ◌≤◌, inl, inr, Bool, true, false, nat_le, List, [], ◌∷◌, ◌++◌, Some, None, refl, sym, subst, ap, ◌∙◌, arith}
 use Rattle.std.proofs.lemmas.Bool.Decides.{leb_tells}
 use Rattle.std.specs.Prelude.{if◌then◌else◌}
+use Rattle.branch_core.specs.Hooks.{after_look}
 use Rattle.branch_core.specs.Whole.{IsIn}
 use Rattle.branch_core.proofs.Orderly.{none_in}
 use Rattle.share_words.specs.Counts.{number_count}
 use Rattle.share_words.specs.Rule.{no_key, WereFound}
 use Rattle.share_words.specs.Seats.{WorkerSeatValue}
-use Rattle.steal_pool.specs.Ledger.{told_of}
+use Rattle.steal_pool.specs.Ledger.{told_of, history_of}
 use Rattle.steal_pool.proofs.Lists.{in_here, in_later, in_split, in_one, counted_number, number_counted}
 
 abbrev step : ℕ → List ℕ → List ℕ
@@ -35,11 +36,17 @@ module _ (old new : WorkerSeatValue) (found : ℕ) (is : new ≡ record old { lo
   looked : told_of new.looked ≡ told_of old.looked ++ step found []
   looked = ap (λ (s : WorkerSeatValue). told_of s.looked) is ∙ told_append old.looked (found ∷ [])
 
-  pub told_key : found < no_key → told_of new.looked ≡ told_of old.looked ++ found ∷ []
+  told_key : found < no_key → told_of new.looked ≡ told_of old.looked ++ found ∷ []
   told_key less = looked ∙ ap (λ (b : Bool). told_of old.looked ++ (if b then [] else found ∷ [])) (one_more found less)
 
-  pub told_none : no_key ≤ found → told_of new.looked ≡ told_of old.looked ++ []
+  told_none : no_key ≤ found → told_of new.looked ≡ told_of old.looked ++ []
   told_none more = looked ∙ ap (λ (b : Bool). told_of old.looked ++ (if b then [] else found ∷ [])) (no_more found more)
+
+  pub history_key : found < no_key → history_of new ≡ after_look (history_of old) (Some found)
+  history_key less = λ i. record { given = (is i).offered; told = told_key less i; posted = (is i).posted }
+
+  pub history_none : no_key ≤ found → history_of new ≡ after_look (history_of old) None
+  history_none more = λ i. record { given = (is i).offered; told = told_none more i; posted = (is i).posted }
 
 -- A key that was told was looked at, and is a key.
 told_looked : (k : ℕ) (looked : List ℕ) → IsIn k (told_of looked) → IsIn k looked × (k < no_key)

@@ -4,10 +4,11 @@ use Rattle.std.specs.List.{flat_map}
 use Rattle.me_terms.specs.Values.{ProblemValue}
 use Rattle.me_terms.specs.Grown.{start}
 use Rattle.me_terms.specs.declared.bounds.Bounds.{Bounds}
+use Rattle.branch_core.specs.Hooks.{History}
 use Rattle.branch_core.specs.Paths.{Turns, ProperlyBegins}
 use Rattle.branch_core.specs.Parts.{RecordValue}
 use Rattle.branch_core.specs.Pieces.{Gift}
-use Rattle.branch_core.specs.Portions.{gifts, sat_keys, MayCut, IsPortion}
+use Rattle.branch_core.specs.Portions.{gifts, sat_keys, MayCut, HandsBackPortion}
 use Rattle.branch_core.specs.SearchTree.{SearchTree, IsSearchTree}
 use Rattle.branch_core.specs.StandsFor.{Account, record_of, StandsFor}
 use Rattle.branch_core.specs.Whole.{IsIn}
@@ -33,6 +34,10 @@ sats_posted accounts = flat_map (λ (account : Account). sat_keys account.pieces
 abbrev pub told_of : List ℕ → List ℕ
 told_of [] = []
 told_of (found ∷ looked) = if nat_le no_key found then told_of looked else found ∷ told_of looked
+
+-- What passed between a seat's walks and the search around them, as its lists tell.
+abbrev pub history_of : WorkerSeatValue → History
+history_of seat = record { given = seat.offered; told = told_of seat.looked; posted = seat.posted }
 
 -- Each account stands for its path, with Cuts by keys that were told or by a Sat of its own, and its gifts lie below its path. What was given away are the gifts of the accounts, and what was posted the keys of their Sats, in order.
 pub record FitsSeat (search : SearchTree) (accounts : List Account) (offered : List Turns) (posted told : List ℕ) : Type 0 where
@@ -91,10 +96,4 @@ pub record IsWalked (tree : ExplorerTree) (path : Turns) (record' : RecordValue)
   pub taken : new.taken ≡ old.taken
   pub ended : new.ended ≡ old.ended
   pub raised : new.raised ≡ new.offered
-  pub told : List ℕ
-  pub posted : List ℕ
-  pub given : List Turns
-  pub told_are : told_of new.looked ≡ told_of old.looked ++ told
-  pub given_are : new.offered ≡ old.offered ++ given
-  pub posted_are : new.posted ≡ old.posted ++ posted
-  pub portion : (search : SearchTree) → IsSearchTree tree.problem tree.bounds (start tree.bounds.start) search → IsPortion tree.bounds.list tree.share search path told given posted record'
+  pub portion : HandsBackPortion tree.problem tree.bounds tree.share path (history_of old) (history_of new) record'

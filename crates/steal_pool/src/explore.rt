@@ -2,14 +2,12 @@
 //!
 //! A work is the part of a search tree below a path, with all that its walk needs. The pool moves works
 //! between threads, and knows of them their paths alone.
-ghost use Rattle.std.specs.Prelude.{◌≡◌, ◌≤◌, ℕ, List, [], ◌++◌, IfOk};
+ghost use Rattle.std.specs.Prelude.{◌≡◌, ◌≤◌, ℕ, [], IfOk};
 ghost use Rattle.me_terms.specs.Values.{ProblemValue};
-ghost use Rattle.me_terms.specs.Grown.{start};
 ghost use Rattle.me_terms.specs.Validity.{IsLawful, IsValid};
 ghost use Rattle.me_terms.specs.declared.bounds.Bounds.{Bounds as BoundsValue};
 ghost use Rattle.branch_core.specs.Paths.{Turns};
-ghost use Rattle.branch_core.specs.Portions.{MayBeGiven, IsPortion};
-ghost use Rattle.branch_core.specs.SearchTree.{SearchTree, IsSearchTree};
+ghost use Rattle.branch_core.specs.Portions.{TakesGifts, HandsBackPortion};
 
 use branch_core::{Hook, Parts, Path, Record};
 use std::alloc::{AllocError, Global};
@@ -51,13 +49,14 @@ pub trait Explore: Sync {
         room: Parts,
         hook: &mut H,
     ) -> Record
-        // The work can be walked, and the hook takes each work that can be walked at a path that may be given away.
-        requires job { is_job self.now (path_of self.now work) work × ((gift : Turns) (given : Self.Work) → MayBeGiven (share self.now) (path_of self.now work) gift → is_job self.now gift given → path_of self.now given ≡ gift → H.may_give hook.old gift given) }
+        requires job { is_job self.now (path_of self.now work) work }
+        // The hook takes each work that can be walked at a path that may be given away.
+        requires hook { TakesGifts (share self.now) (path_of self.now work) (path_of self.now) (is_job self.now) (H.may_give hook.old) }
         requires share { share self.now ≤ 16 }
         requires empty { room.items ≡ [] }
         requires room { 40 ≤ room.spare }
         ensures path { result.path ≡ path_of self.now work }
-        ensures portion { (told posted : List ℕ) × (given : List Turns) × (H.seen hook.new ≡ H.seen hook.old ++ told) × (H.given hook.new ≡ H.given hook.old ++ given) × (H.posted hook.new ≡ H.posted hook.old ++ posted) × ((search : SearchTree) → IsSearchTree (problem self.now) (bounds self.now) (start (bounds self.now).start) search → IsPortion (bounds self.now).list (share self.now) search (path_of self.now work) told given posted result) };
+        ensures portion { HandsBackPortion (problem self.now) (bounds self.now) (share self.now) (path_of self.now work) (H.history hook.old) (H.history hook.new) result };
 
     /// The problem is valid and the bounds are lawful.
     ghost lawful: { (explorer : Self) → IsValid (problem explorer) × IsLawful (bounds explorer) };

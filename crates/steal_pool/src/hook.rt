@@ -2,9 +2,9 @@
 //!
 //! A path is offered and raised before its work lies in a deque, and the place for the work is made before
 //! that, so a work is handed back only where nobody was told of it.
-ghost use Rattle.std.specs.Prelude.{◌≡◌, ◌++◌, List};
+ghost use Rattle.std.specs.Prelude.{◌≡◌};
 ghost use Rattle.share_words.specs.Seats.{MayGive};
-ghost use Rattle.steal_pool.specs.Ledger.{told_of, IsSameSeat};
+ghost use Rattle.steal_pool.specs.Ledger.{history_of, IsSameSeat};
 ghost use Rattle.steal_pool.specs.Tasks.{IsTask, StandsAt};
 
 use crate::deques::{Deques, TaskRule};
@@ -55,15 +55,11 @@ pub(crate) struct PoolHook<'p, W, G, B: TaskRule<W>, S: WalkStart> {
 }
 
 impl<'p, W: Drop, G: Gate, B: TaskRule<W>, S: WalkStart> Hook<W> for PoolHook<'p, W, G, B, S> {
-    ghost use Rattle.steal_pool.specs.Ledger.{told_of};
+    ghost use Rattle.steal_pool.specs.Ledger.{history_of};
     ghost use Rattle.share_words.specs.Seats.{MayGive};
     ghost use Rattle.steal_pool.specs.Tasks.{IsTask};
 
-    ghost given = { λ d. d.seat.offered };
-
-    ghost seen = { λ d. told_of d.seat.looked };
-
-    ghost posted = { λ d. d.seat.posted };
+    ghost history = { λ d. history_of d.seat };
 
     ghost may_give = { λ _ path work. MayGive S.words.share S.path path × B.is_task path work };
 

@@ -41,11 +41,7 @@ impl Keeper {
 }
 
 impl<J: Drop> Hook<J> for Keeper {
-    ghost given = { λ k. option_to_list k.gift };
-
-    ghost seen = { λ k. k.told.keys };
-
-    ghost posted = { λ k. k.posted.keys };
+    ghost history = { λ k. record { given = option_to_list k.gift; told = k.told.keys; posted = k.posted.keys } };
 
     ghost may_give = { λ _ _ _. Unit {0} };
 

@@ -16,7 +16,10 @@ walk_portion-requires-clause-job c =
       grown = subst G (sym c.in_ok-branch.ensures) started;
       turns = ap turns_taken c.in_ok-branch.ensures ∙ sym c.root-path.ensures;
     } in
-    (job, λ gift work may is_job at. tt)
+    job
+
+pub walk_portion-requires-clause-hook : goal.walk_portion-requires-clause-hook
+walk_portion-requires-clause-hook c = record { takes = λ gift work may is_job at. tt }
 
 pub returns : goal.returns
 returns c =
@@ -24,9 +27,9 @@ returns c =
     let bounds = c.args.bounds.now in
     let p = c.walk_portion.ensures.portion in
     let t = tree_of problem bounds (start bounds.start) started in
-    let I : Turns → Type 0 = λ path. IsPortion bounds.list 0 t.0 path p.0 p.2 p.1 c.walk_portion.result in
-    let portion = subst I c.root-path.ensures (p.6 t.0 t.1) in
+    let I : Turns → Type 0 = λ path. IsPortion bounds.list 0 t.0 path p.told p.given p.posted c.walk_portion.result in
+    let portion = subst I c.root-path.ensures (p.portion t.0 t.1) in
     record {
-      whole = whole_alone problem bounds c.walk_portion.result p.0 p.2 p.1 (sym p.3) (sym p.4) t.0 t.1 portion;
-      own = own_alone p.0 p.2 p.1 (sym p.3) (sym p.4) (c.walk_portion.ensures.one_part refl refl) portion;
+      whole = whole_alone problem bounds c.walk_portion.result p.told p.given p.posted (sym p.extends.told_are) (sym p.extends.given_are) t.0 t.1 portion;
+      own = own_alone p.told p.given p.posted (sym p.extends.told_are) (sym p.extends.given_are) (c.walk_portion.ensures.one_part refl refl) portion;
     }

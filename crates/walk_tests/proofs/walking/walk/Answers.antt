@@ -11,4 +11,7 @@ walk_portion-requires-clause-job g c =
       grown = subst G (sym c.requires.root) started;
       turns = ap turns_taken c.requires.root ∙ sym c.root-path.ensures;
     } in
-    (job, λ gift work may is_job at. tt)
+    job
+
+pub walk_portion-requires-clause-hook : goal.walk_portion-requires-clause-hook
+walk_portion-requires-clause-hook g c = record { takes = λ gift work may is_job at. tt }

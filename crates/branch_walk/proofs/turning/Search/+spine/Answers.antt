@@ -1,13 +1,14 @@
-use Rattle.std.proofs.Common.{◌≡◌, ◌≤◌, true, false, [], ◌∷◌, ◌++◌, length, length-append, append-nil, append_assoc, sym, subst, ap, ◌∙◌, arith}
+use Rattle.std.proofs.Common.{◌≡◌, ◌≤◌, true, false, [], ◌∷◌, ◌++◌, length, length-append, append_assoc, sym, subst, ap, ◌∙◌, arith}
 use Rattle.me_terms.specs.Context.{Context}
 use Rattle.me_terms.specs.Grown.{IsGrown, went_left}
+use Rattle.branch_core.specs.Hooks.{History}
 use Rattle.branch_core.specs.Paths.{Turns}
 use Rattle.branch_walk.specs.Jobs.{IsJob, turns_taken}
 use Rattle.branch_walk.specs.Tallies.{IsTally, TakesOwnLeaf}
-use Rattle.branch_walk.specs.Walks.{Heard, HasWalkedLeft, IsBeside}
+use Rattle.branch_walk.specs.Walks.{HasWalkedLeft, IsBeside}
 use Rattle.branch_walk.specs.declared.tally.Tally.{Tally}
 use Rattle.branch_walk.proofs.Descents.{lifted}
-use Rattle.branch_walk.proofs.Spines.{given_deeper, given_if, right_given}
+use Rattle.branch_walk.proofs.Spines.{given_deeper, right_given}
 use Rattle.branch_walk.proofs.TurnsTaken.{turns_left}
 use Rattle.branch_walk.proofs.turning.Search.+spine.Goals as goal
 
@@ -30,7 +31,7 @@ give_right-away-requires-clause-hook g t c = λ work job is.
     let many = ap (λ (t : Turns). length t) right_is in
     let more = length-append c.args.path (true ∷ []) in
     let few : length right ≤ c.args.share = omega (arith, number, many, more, c.from.ensures, c.if-from-share.false) in
-    (c.to_split.ensures.condition right work).0 (c.requires.hook right work (right_given c.args.share c.args.path right right_is few) job is)
+    (c.to_split.ensures.condition right work).0 (c.requires.hook.takes right work (right_given c.args.share c.args.path right right_is few) job is)
 
 pub give_right-away-requires-clause-beside : goal.give_right-away-requires-clause-beside
 give_right-away-requires-clause-beside g t c =
@@ -107,7 +108,7 @@ spine-state-requires g t c κs within =
                         (c.requires.kept.0, subst T (sym same) c.requires.kept.1),
                         (
                           omega (arith, number, long, one_more, c.from.ensures, c.if-from-share.false, room, spare),
-                          λ gift work may is_job is. (c.give_right-away.ensures.condition gift work).0 ((c.to_split.ensures.condition gift work).0 (c.requires.hook gift work (given_deeper c.args.share c.args.path left gift left_is may) is_job is)),
+                          record { takes = λ gift work may is_job is. (c.give_right-away.ensures.condition gift work).0 ((c.to_split.ensures.condition gift work).0 (c.requires.hook.takes gift work (given_deeper c.args.share c.args.path left gift left_is may) is_job is)) },
                         ),
                       ),
                     ),
@@ -188,24 +189,20 @@ after_left-requires-clause-left g t c =
     let many = ap (λ (t : Turns). length t) right_is in
     let more = length-append c.args.path (true ∷ []) in
     let few : length right ≤ c.args.share = omega (arith, number, many, more, c.from.ensures, c.if-from-share.false) in
-    let first : Heard = record { given = g.H.Hook.given c.args.hook.now; seen = g.H.Hook.seen c.args.hook.now; posted = g.H.Hook.posted c.args.hook.now } in
-    let start : Heard = record { given = g.H.Hook.given c.to_split.new.hook; seen = g.H.Hook.seen c.to_split.new.hook; posted = g.H.Hook.posted c.to_split.new.hook } in
-    let given : Heard = record { given = g.H.Hook.given c.give_right-away.new.hook; seen = g.H.Hook.seen c.give_right-away.new.hook; posted = g.H.Hook.posted c.give_right-away.new.hook } in
-    let left_now : Heard = record { given = g.H.Hook.given c.spine-state.new.hook; seen = g.H.Hook.seen c.spine-state.new.hook; posted = g.H.Hook.posted c.spine-state.new.hook } in
+    let first : History = g.H.Hook.history c.args.hook.now in
+    let start : History = g.H.Hook.history c.to_split.new.hook in
+    let given : History = g.H.Hook.history c.give_right-away.new.hook in
+    let left_now : History = g.H.Hook.history c.spine-state.new.hook in
     let gift = c.give_right-away.ensures in
     let hl : HasWalkedLeft problem bounds c.args.share c.give_right-away.result right c.len-base.result c.spine-state.result (c.spine-state.new.branch.context) node start left_now c.to_split.new.tally c.spine-state.new.tally = record {
       left = c.to_split.new.branch.context;
-      heard = given;
+      history = given;
       grown = leads.grown;
       split = split;
       right_is = right_is ∙ ap (λ (t : Turns). t ++ true ∷ []) (sym path_is);
       few = few;
       at_base = sym c.len-base.ensures.number;
-      went = record {
-        given = given_if c.give_right-away.result right start.given given.given gift.given;
-        seen = gift.seen ∙ sym (append-nil start.seen);
-        posted = gift.posted ∙ sym (append-nil start.posted);
-      };
+      went = gift.went;
       stands = c.spine-state.ensures.stands;
       walked = c.spine-state.ensures.walked;
     } in
@@ -230,28 +227,24 @@ returns-clause-walked g t c =
     let many = ap (λ (t : Turns). length t) right_is in
     let more = length-append c.args.path (true ∷ []) in
     let few : length right ≤ c.args.share = omega (arith, number, many, more, c.from.ensures, c.if-from-share.false) in
-    let first : Heard = record { given = g.H.Hook.given c.args.hook.now; seen = g.H.Hook.seen c.args.hook.now; posted = g.H.Hook.posted c.args.hook.now } in
-    let start : Heard = record { given = g.H.Hook.given c.to_split.new.hook; seen = g.H.Hook.seen c.to_split.new.hook; posted = g.H.Hook.posted c.to_split.new.hook } in
-    let given : Heard = record { given = g.H.Hook.given c.give_right-away.new.hook; seen = g.H.Hook.seen c.give_right-away.new.hook; posted = g.H.Hook.posted c.give_right-away.new.hook } in
-    let left_now : Heard = record { given = g.H.Hook.given c.spine-state.new.hook; seen = g.H.Hook.seen c.spine-state.new.hook; posted = g.H.Hook.posted c.spine-state.new.hook } in
+    let first : History = g.H.Hook.history c.args.hook.now in
+    let start : History = g.H.Hook.history c.to_split.new.hook in
+    let given : History = g.H.Hook.history c.give_right-away.new.hook in
+    let left_now : History = g.H.Hook.history c.spine-state.new.hook in
     let gift = c.give_right-away.ensures in
     let hl : HasWalkedLeft problem bounds c.args.share c.give_right-away.result right c.len-base.result c.spine-state.result (c.spine-state.new.branch.context) node start left_now c.to_split.new.tally c.spine-state.new.tally = record {
       left = c.to_split.new.branch.context;
-      heard = given;
+      history = given;
       grown = leads.grown;
       split = split;
       right_is = right_is ∙ ap (λ (t : Turns). t ++ true ∷ []) (sym path_is);
       few = few;
       at_base = sym c.len-base.ensures.number;
-      went = record {
-        given = given_if c.give_right-away.result right start.given given.given gift.given;
-        seen = gift.seen ∙ sym (append-nil start.seen);
-        posted = gift.posted ∙ sym (append-nil start.posted);
-      };
+      went = gift.went;
       stands = c.spine-state.ensures.stands;
       walked = c.spine-state.ensures.walked;
     } in
-    let now : Heard = record { given = g.H.Hook.given c.after_left.new.hook; seen = g.H.Hook.seen c.after_left.new.hook; posted = g.H.Hook.posted c.after_left.new.hook } in
+    let now : History = g.H.Hook.history c.after_left.new.hook in
     let done = c.after_left.ensures.walked c.args.share node start c.to_split.new.tally hl in
     lifted problem bounds context node first start now c.args.tally.now c.to_split.new.tally c.after_left.new.tally c.after_left.result c.args.share told leads e.ended.2 same done.0
 
@@ -274,24 +267,20 @@ returns-clause-stands g t c = λ going.
     let many = ap (λ (t : Turns). length t) right_is in
     let more = length-append c.args.path (true ∷ []) in
     let few : length right ≤ c.args.share = omega (arith, number, many, more, c.from.ensures, c.if-from-share.false) in
-    let first : Heard = record { given = g.H.Hook.given c.args.hook.now; seen = g.H.Hook.seen c.args.hook.now; posted = g.H.Hook.posted c.args.hook.now } in
-    let start : Heard = record { given = g.H.Hook.given c.to_split.new.hook; seen = g.H.Hook.seen c.to_split.new.hook; posted = g.H.Hook.posted c.to_split.new.hook } in
-    let given : Heard = record { given = g.H.Hook.given c.give_right-away.new.hook; seen = g.H.Hook.seen c.give_right-away.new.hook; posted = g.H.Hook.posted c.give_right-away.new.hook } in
-    let left_now : Heard = record { given = g.H.Hook.given c.spine-state.new.hook; seen = g.H.Hook.seen c.spine-state.new.hook; posted = g.H.Hook.posted c.spine-state.new.hook } in
+    let first : History = g.H.Hook.history c.args.hook.now in
+    let start : History = g.H.Hook.history c.to_split.new.hook in
+    let given : History = g.H.Hook.history c.give_right-away.new.hook in
+    let left_now : History = g.H.Hook.history c.spine-state.new.hook in
     let gift = c.give_right-away.ensures in
     let hl : HasWalkedLeft problem bounds c.args.share c.give_right-away.result right c.len-base.result c.spine-state.result (c.spine-state.new.branch.context) node start left_now c.to_split.new.tally c.spine-state.new.tally = record {
       left = c.to_split.new.branch.context;
-      heard = given;
+      history = given;
       grown = leads.grown;
       split = split;
       right_is = right_is ∙ ap (λ (t : Turns). t ++ true ∷ []) (sym path_is);
       few = few;
       at_base = sym c.len-base.ensures.number;
-      went = record {
-        given = given_if c.give_right-away.result right start.given given.given gift.given;
-        seen = gift.seen ∙ sym (append-nil start.seen);
-        posted = gift.posted ∙ sym (append-nil start.posted);
-      };
+      went = gift.went;
       stands = c.spine-state.ensures.stands;
       walked = c.spine-state.ensures.walked;
     } in

@@ -3,8 +3,9 @@ use Rattle.me_terms.specs.Values.{SplitLeft, SplitRight}
 use Rattle.me_terms.specs.Context.{Context}
 use Rattle.me_terms.specs.Grown.{IsGrown, split_entry}
 use Rattle.me_terms.specs.Measures.{complement}
+use Rattle.branch_core.specs.Hooks.{History}
 use Rattle.branch_walk.specs.Turning.{EndsLeft}
-use Rattle.branch_walk.specs.Walks.{Heard, IsReady}
+use Rattle.branch_walk.specs.Walks.{IsReady}
 use Rattle.branch_walk.specs.declared.state.State.{State}
 use Rattle.branch_walk.proofs.Alongside.{grown_of, still_of}
 use Rattle.branch_walk.proofs.Ends.{longer}
@@ -18,7 +19,7 @@ returns-then-away-clause-walked g c = λ share node start first hl.
     let problem = c.args.self.now.problem.now in
     let bounds = c.args.self.now.bounds.now in
     let stands_at = c.args.branch.now.context in
-    let mid : Heard = record { given = g.H.Hook.given c.args.hook.now; seen = g.H.Hook.seen c.args.hook.now; posted = g.H.Hook.posted c.args.hook.now } in (
+    let mid : History = g.H.Hook.history c.args.hook.now in (
       gave_away problem bounds share c.args.away c.args.right c.args.base c.args.state stands_at node start mid first c.args.tally.now hl c.if-away.true c.give.new.self (λ before t. c.give.ensures.tally bounds.list before t),
       λ going.
           let there = hl.stands going in
@@ -33,7 +34,7 @@ turn_right-requires-clause-grown g c =
     let problem = c.args.self.now.problem.now in
     let bounds = c.args.self.now.bounds.now in
     let stands_at = c.args.branch.now.context in
-    let mid : Heard = record { given = g.H.Hook.given c.args.hook.now; seen = g.H.Hook.seen c.args.hook.now; posted = g.H.Hook.posted c.args.hook.now } in
+    let mid : History = g.H.Hook.history c.args.hook.now in
     let k = c.requires.left in
     let hl = k.4 in
     let back_there = c.shrink_to.ensures.shrunk hl.left (hl.stands c.in-Going.is).0 (hl.stands c.in-Going.is).1 hl.at_base in
@@ -46,7 +47,7 @@ turn_right-requires-clause-left g c =
     let problem = c.args.self.now.problem.now in
     let bounds = c.args.self.now.bounds.now in
     let stands_at = c.args.branch.now.context in
-    let mid : Heard = record { given = g.H.Hook.given c.args.hook.now; seen = g.H.Hook.seen c.args.hook.now; posted = g.H.Hook.posted c.args.hook.now } in
+    let mid : History = g.H.Hook.history c.args.hook.now in
     let k = c.requires.left in
     let hl = k.4 in
     let back_there = c.shrink_to.ensures.shrunk hl.left (hl.stands c.in-Going.is).0 (hl.stands c.in-Going.is).1 hl.at_base in
@@ -58,7 +59,7 @@ subtree-requires-clause-grown g c =
     let problem = c.args.self.now.problem.now in
     let bounds = c.args.self.now.bounds.now in
     let stands_at = c.args.branch.now.context in
-    let mid : Heard = record { given = g.H.Hook.given c.args.hook.now; seen = g.H.Hook.seen c.args.hook.now; posted = g.H.Hook.posted c.args.hook.now } in
+    let mid : History = g.H.Hook.history c.args.hook.now in
     let k = c.requires.left in
     let hl = k.4 in
     let back_there = c.shrink_to.ensures.shrunk hl.left (hl.stands c.in-Going.is).0 (hl.stands c.in-Going.is).1 hl.at_base in
@@ -70,8 +71,8 @@ returns-in-Ok-clause-walked g c = λ share node start first hl.
     let problem = c.args.self.now.problem.now in
     let bounds = c.args.self.now.bounds.now in
     let stands_at = c.args.branch.now.context in
-    let mid : Heard = record { given = g.H.Hook.given c.args.hook.now; seen = g.H.Hook.seen c.args.hook.now; posted = g.H.Hook.posted c.args.hook.now } in
-    let now : Heard = record { given = g.H.Hook.given c.subtree.new.hook; seen = g.H.Hook.seen c.subtree.new.hook; posted = g.H.Hook.posted c.subtree.new.hook } in
+    let mid : History = g.H.Hook.history c.args.hook.now in
+    let now : History = g.H.Hook.history c.subtree.new.hook in
     let back_there = c.shrink_to.ensures.shrunk hl.left (hl.stands c.in-Going.is).0 (hl.stands c.in-Going.is).1 hl.at_base in
     let turned = c.in-Ok.ensures.turned node (split_entry hl.split.l hl.split.kind SplitLeft) (back_there ∙ hl.split.is) in (
       walked_right problem bounds share c.args.away c.args.right c.args.base c.args.state stands_at node start mid first c.args.tally.now hl c.if-away.false c.in-Going.is (c.turn_right.new.self.context) turned c.subtree.result now c.subtree.new.tally (c.subtree.ensures.walked 0),
@@ -83,7 +84,7 @@ returns-in-Err-clause-walked g c = λ share node start first hl.
     let problem = c.args.self.now.problem.now in
     let bounds = c.args.self.now.bounds.now in
     let stands_at = c.args.branch.now.context in
-    let mid : Heard = record { given = g.H.Hook.given c.args.hook.now; seen = g.H.Hook.seen c.args.hook.now; posted = g.H.Hook.posted c.args.hook.now } in (
+    let mid : History = g.H.Hook.history c.args.hook.now in (
       lost_right problem bounds share c.args.away c.args.right c.args.base c.args.state stands_at node start mid first c.args.tally.now hl c.if-away.false c.lose.new.self (λ before t. c.lose.ensures.tally bounds.list before c.args.right [] t),
       λ going. cc going,
     )
@@ -93,7 +94,7 @@ returns-in-Cutting-clause-walked g c = λ share node start first hl.
     let problem = c.args.self.now.problem.now in
     let bounds = c.args.self.now.bounds.now in
     let stands_at = c.args.branch.now.context in
-    let mid : Heard = record { given = g.H.Hook.given c.args.hook.now; seen = g.H.Hook.seen c.args.hook.now; posted = g.H.Hook.posted c.args.hook.now } in (
+    let mid : History = g.H.Hook.history c.args.hook.now in (
       cut_right problem bounds share c.args.away c.args.right c.args.base c.args.state stands_at node start mid first c.args.tally.now hl c.if-away.false c.in-Cutting.key c.in-Cutting.is c.cut.new.self (λ before t. c.cut.ensures.tally bounds.list before c.args.right [] t),
       λ going. cc going,
     )
@@ -103,7 +104,7 @@ returns-in-Lost-clause-walked g c = λ share node start first hl.
     let problem = c.args.self.now.problem.now in
     let bounds = c.args.self.now.bounds.now in
     let stands_at = c.args.branch.now.context in
-    let mid : Heard = record { given = g.H.Hook.given c.args.hook.now; seen = g.H.Hook.seen c.args.hook.now; posted = g.H.Hook.posted c.args.hook.now } in (
+    let mid : History = g.H.Hook.history c.args.hook.now in (
       lost_right problem bounds share c.args.away c.args.right c.args.base c.args.state stands_at node start mid first c.args.tally.now hl c.if-away.false c.lose-in-Lost.new.self (λ before t. c.lose-in-Lost.ensures.tally bounds.list before c.args.right [] t),
       λ going. cc going,
     )

@@ -1,5 +1,6 @@
-use Rattle.std.proofs.Common.{◌∷◌, [], append-nil, refl, sym, ◌∙◌}
+use Rattle.std.proofs.Common.{◌∷◌, [], refl}
 use Rattle.branch_walk.specs.Jobs.{turns_taken}
+use Rattle.branch_walk.proofs.Visits.{extends_post}
 use Rattle.branch_walk.proofs.turning.Search.exhausted.Goals as goal
 
 pub returns-in-Ok-clause-visited : goal.returns-in-Ok-clause-visited
@@ -7,11 +8,7 @@ returns-in-Ok-clause-visited g c =
     let context = g.V.View.context c.args.branch.now in
     let list = c.args.self.now.bounds.now.list in (
       c.node_key-key.result ∷ [],
-      record {
-        given = c.post.ensures.given ∙ sym (append-nil (g.H.Hook.given c.args.hook.now));
-        seen = c.post.ensures.seen ∙ sym (append-nil (g.H.Hook.seen c.args.hook.now));
-        posted = c.post.ensures.posted;
-      },
+      extends_post c.node_key-key.result c.post.ensures.history,
       λ told. (
         record {
           next = c.requires.next;

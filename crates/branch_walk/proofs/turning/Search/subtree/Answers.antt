@@ -1,9 +1,9 @@
 use Rattle.std.proofs.Common.{ℕ, ◌≤◌, List, ◌∷◌, ◌++◌, length, sym, subst, arith}
 use Rattle.me_terms.specs.Context.{Context}
+use Rattle.branch_core.specs.Hooks.{History}
 use Rattle.branch_core.specs.Pieces.{Piece}
 use Rattle.branch_walk.specs.Tallies.{IsTally, TakesLoss, cuts, losses}
 use Rattle.branch_walk.specs.Turning.{IsAllBack, IsBackAtLeft}
-use Rattle.branch_walk.specs.Walks.{Heard}
 use Rattle.branch_core.specs.Paths.{Turns}
 use Rattle.branch_walk.specs.declared.state.Visit.TheVariants as visit
 use Rattle.branch_walk.specs.declared.tally.Tally.{Tally}
@@ -20,7 +20,7 @@ use Rattle.branch_walk.proofs.turning.Search.subtree.Goals as goal
 
 pub walk-init : goal.walk-init
 walk-init g c =
-    let first : Heard = record { given = g.H.Hook.given c.args.hook.now; seen = g.H.Hook.seen c.args.hook.now; posted = g.H.Hook.posted c.args.hook.now } in
+    let first : History = g.H.Hook.history c.args.hook.now in
     record {
       of = c.requires.of;
       walking = walk_begins c.args.self.now.problem.now c.args.self.now.bounds.now (c.args.branch.now.context) first c.args.tally.now c.requires.grown c.requires.open;
@@ -38,9 +38,9 @@ walk-smaller-in-Asserted g c =
     let root = c.args.branch.now.context in
     let from = c.walk.branch.context in
     let to = c.visit.new.branch.context in
-    let first : Heard = record { given = g.H.Hook.given c.args.hook.now; seen = g.H.Hook.seen c.args.hook.now; posted = g.H.Hook.posted c.args.hook.now } in
-    let h : Heard = record { given = g.H.Hook.given c.walk.hook; seen = g.H.Hook.seen c.walk.hook; posted = g.H.Hook.posted c.walk.hook } in
-    let now : Heard = record { given = g.H.Hook.given c.visit.new.hook; seen = g.H.Hook.seen c.visit.new.hook; posted = g.H.Hook.posted c.visit.new.hook } in
+    let first : History = g.H.Hook.history c.args.hook.now in
+    let h : History = g.H.Hook.history c.walk.hook in
+    let now : History = g.H.Hook.history c.visit.new.hook in
     let w = c.walk.invariant.walking in
     let v = c.visit.ensures.visited in
     let at = visited_at problem bounds from to c.walk.tally c.visit.new.tally v.0 v.1 c.visit.result visit.Asserted c.in-Asserted.is v.3 in
@@ -53,9 +53,9 @@ walk-preserved-in-Asserted g c =
     let root = c.args.branch.now.context in
     let from = c.walk.branch.context in
     let to = c.visit.new.branch.context in
-    let first : Heard = record { given = g.H.Hook.given c.args.hook.now; seen = g.H.Hook.seen c.args.hook.now; posted = g.H.Hook.posted c.args.hook.now } in
-    let h : Heard = record { given = g.H.Hook.given c.walk.hook; seen = g.H.Hook.seen c.walk.hook; posted = g.H.Hook.posted c.walk.hook } in
-    let now : Heard = record { given = g.H.Hook.given c.visit.new.hook; seen = g.H.Hook.seen c.visit.new.hook; posted = g.H.Hook.posted c.visit.new.hook } in
+    let first : History = g.H.Hook.history c.args.hook.now in
+    let h : History = g.H.Hook.history c.walk.hook in
+    let now : History = g.H.Hook.history c.visit.new.hook in
     let w = c.walk.invariant.walking in
     let v = c.visit.ensures.visited in
     let at = visited_at problem bounds from to c.walk.tally c.visit.new.tally v.0 v.1 c.visit.result visit.Asserted c.in-Asserted.is v.3 in
@@ -73,9 +73,9 @@ walk-smaller-in-Left g c =
     let root = c.args.branch.now.context in
     let from = c.walk.branch.context in
     let to = c.visit.new.branch.context in
-    let first : Heard = record { given = g.H.Hook.given c.args.hook.now; seen = g.H.Hook.seen c.args.hook.now; posted = g.H.Hook.posted c.args.hook.now } in
-    let h : Heard = record { given = g.H.Hook.given c.walk.hook; seen = g.H.Hook.seen c.walk.hook; posted = g.H.Hook.posted c.walk.hook } in
-    let now : Heard = record { given = g.H.Hook.given c.visit.new.hook; seen = g.H.Hook.seen c.visit.new.hook; posted = g.H.Hook.posted c.visit.new.hook } in
+    let first : History = g.H.Hook.history c.args.hook.now in
+    let h : History = g.H.Hook.history c.walk.hook in
+    let now : History = g.H.Hook.history c.visit.new.hook in
     let w = c.walk.invariant.walking in
     let v = c.visit.ensures.visited in
     let at = visited_at problem bounds from to c.walk.tally c.visit.new.tally v.0 v.1 c.visit.result visit.Left c.in-Left.is v.3 in
@@ -88,9 +88,9 @@ walk-preserved-in-Left g c =
     let root = c.args.branch.now.context in
     let from = c.walk.branch.context in
     let to = c.visit.new.branch.context in
-    let first : Heard = record { given = g.H.Hook.given c.args.hook.now; seen = g.H.Hook.seen c.args.hook.now; posted = g.H.Hook.posted c.args.hook.now } in
-    let h : Heard = record { given = g.H.Hook.given c.walk.hook; seen = g.H.Hook.seen c.walk.hook; posted = g.H.Hook.posted c.walk.hook } in
-    let now : Heard = record { given = g.H.Hook.given c.visit.new.hook; seen = g.H.Hook.seen c.visit.new.hook; posted = g.H.Hook.posted c.visit.new.hook } in
+    let first : History = g.H.Hook.history c.args.hook.now in
+    let h : History = g.H.Hook.history c.walk.hook in
+    let now : History = g.H.Hook.history c.visit.new.hook in
     let w = c.walk.invariant.walking in
     let v = c.visit.ensures.visited in
     let at = visited_at problem bounds from to c.walk.tally c.visit.new.tally v.0 v.1 c.visit.result visit.Left c.in-Left.is v.3 in
@@ -108,9 +108,9 @@ back-requires g c =
     let root = c.args.branch.now.context in
     let from = c.walk.branch.context in
     let to = c.visit.new.branch.context in
-    let first : Heard = record { given = g.H.Hook.given c.args.hook.now; seen = g.H.Hook.seen c.args.hook.now; posted = g.H.Hook.posted c.args.hook.now } in
-    let h : Heard = record { given = g.H.Hook.given c.walk.hook; seen = g.H.Hook.seen c.walk.hook; posted = g.H.Hook.posted c.walk.hook } in
-    let now : Heard = record { given = g.H.Hook.given c.visit.new.hook; seen = g.H.Hook.seen c.visit.new.hook; posted = g.H.Hook.posted c.visit.new.hook } in
+    let first : History = g.H.Hook.history c.args.hook.now in
+    let h : History = g.H.Hook.history c.walk.hook in
+    let now : History = g.H.Hook.history c.visit.new.hook in
     let w = c.walk.invariant.walking in
     let v = c.visit.ensures.visited in
     let at = visited_at problem bounds from to c.walk.tally c.visit.new.tally v.0 v.1 c.visit.result visit.Leaf c.in-Leaf.is v.3 in
@@ -127,9 +127,9 @@ returns-then-not-back-clause-walked g c =
     let root = c.args.branch.now.context in
     let from = c.walk.branch.context in
     let to = c.visit.new.branch.context in
-    let first : Heard = record { given = g.H.Hook.given c.args.hook.now; seen = g.H.Hook.seen c.args.hook.now; posted = g.H.Hook.posted c.args.hook.now } in
-    let h : Heard = record { given = g.H.Hook.given c.walk.hook; seen = g.H.Hook.seen c.walk.hook; posted = g.H.Hook.posted c.walk.hook } in
-    let now : Heard = record { given = g.H.Hook.given c.visit.new.hook; seen = g.H.Hook.seen c.visit.new.hook; posted = g.H.Hook.posted c.visit.new.hook } in
+    let first : History = g.H.Hook.history c.args.hook.now in
+    let h : History = g.H.Hook.history c.walk.hook in
+    let now : History = g.H.Hook.history c.visit.new.hook in
     let w = c.walk.invariant.walking in
     let v = c.visit.ensures.visited in
     let at = visited_at problem bounds from to c.walk.tally c.visit.new.tally v.0 v.1 c.visit.result visit.Leaf c.in-Leaf.is v.3 in
@@ -146,9 +146,9 @@ returns-then-not-back-clause-stands g c =
     let root = c.args.branch.now.context in
     let from = c.walk.branch.context in
     let to = c.visit.new.branch.context in
-    let first : Heard = record { given = g.H.Hook.given c.args.hook.now; seen = g.H.Hook.seen c.args.hook.now; posted = g.H.Hook.posted c.args.hook.now } in
-    let h : Heard = record { given = g.H.Hook.given c.walk.hook; seen = g.H.Hook.seen c.walk.hook; posted = g.H.Hook.posted c.walk.hook } in
-    let now : Heard = record { given = g.H.Hook.given c.visit.new.hook; seen = g.H.Hook.seen c.visit.new.hook; posted = g.H.Hook.posted c.visit.new.hook } in
+    let first : History = g.H.Hook.history c.args.hook.now in
+    let h : History = g.H.Hook.history c.walk.hook in
+    let now : History = g.H.Hook.history c.visit.new.hook in
     let w = c.walk.invariant.walking in
     let v = c.visit.ensures.visited in
     let at = visited_at problem bounds from to c.walk.tally c.visit.new.tally v.0 v.1 c.visit.result visit.Leaf c.in-Leaf.is v.3 in
@@ -165,9 +165,9 @@ turn_right-requires-clause-grown g c =
     let root = c.args.branch.now.context in
     let from = c.walk.branch.context in
     let to = c.visit.new.branch.context in
-    let first : Heard = record { given = g.H.Hook.given c.args.hook.now; seen = g.H.Hook.seen c.args.hook.now; posted = g.H.Hook.posted c.args.hook.now } in
-    let h : Heard = record { given = g.H.Hook.given c.walk.hook; seen = g.H.Hook.seen c.walk.hook; posted = g.H.Hook.posted c.walk.hook } in
-    let now : Heard = record { given = g.H.Hook.given c.visit.new.hook; seen = g.H.Hook.seen c.visit.new.hook; posted = g.H.Hook.posted c.visit.new.hook } in
+    let first : History = g.H.Hook.history c.args.hook.now in
+    let h : History = g.H.Hook.history c.walk.hook in
+    let now : History = g.H.Hook.history c.visit.new.hook in
     let w = c.walk.invariant.walking in
     let v = c.visit.ensures.visited in
     let at = visited_at problem bounds from to c.walk.tally c.visit.new.tally v.0 v.1 c.visit.result visit.Leaf c.in-Leaf.is v.3 in
@@ -188,9 +188,9 @@ turn_right-requires-clause-left g c =
     let root = c.args.branch.now.context in
     let from = c.walk.branch.context in
     let to = c.visit.new.branch.context in
-    let first : Heard = record { given = g.H.Hook.given c.args.hook.now; seen = g.H.Hook.seen c.args.hook.now; posted = g.H.Hook.posted c.args.hook.now } in
-    let h : Heard = record { given = g.H.Hook.given c.walk.hook; seen = g.H.Hook.seen c.walk.hook; posted = g.H.Hook.posted c.walk.hook } in
-    let now : Heard = record { given = g.H.Hook.given c.visit.new.hook; seen = g.H.Hook.seen c.visit.new.hook; posted = g.H.Hook.posted c.visit.new.hook } in
+    let first : History = g.H.Hook.history c.args.hook.now in
+    let h : History = g.H.Hook.history c.walk.hook in
+    let now : History = g.H.Hook.history c.visit.new.hook in
     let w = c.walk.invariant.walking in
     let v = c.visit.ensures.visited in
     let at = visited_at problem bounds from to c.walk.tally c.visit.new.tally v.0 v.1 c.visit.result visit.Leaf c.in-Leaf.is v.3 in
@@ -209,9 +209,9 @@ returns-in-Err-clause-walked g c =
     let root = c.args.branch.now.context in
     let from = c.walk.branch.context in
     let to = c.visit.new.branch.context in
-    let first : Heard = record { given = g.H.Hook.given c.args.hook.now; seen = g.H.Hook.seen c.args.hook.now; posted = g.H.Hook.posted c.args.hook.now } in
-    let h : Heard = record { given = g.H.Hook.given c.walk.hook; seen = g.H.Hook.seen c.walk.hook; posted = g.H.Hook.posted c.walk.hook } in
-    let now : Heard = record { given = g.H.Hook.given c.visit.new.hook; seen = g.H.Hook.seen c.visit.new.hook; posted = g.H.Hook.posted c.visit.new.hook } in
+    let first : History = g.H.Hook.history c.args.hook.now in
+    let h : History = g.H.Hook.history c.walk.hook in
+    let now : History = g.H.Hook.history c.visit.new.hook in
     let w = c.walk.invariant.walking in
     let v = c.visit.ensures.visited in
     let at = visited_at problem bounds from to c.walk.tally c.visit.new.tally v.0 v.1 c.visit.result visit.Leaf c.in-Leaf.is v.3 in
@@ -228,9 +228,9 @@ walk-smaller g c =
     let root = c.args.branch.now.context in
     let from = c.walk.branch.context in
     let to = c.visit.new.branch.context in
-    let first : Heard = record { given = g.H.Hook.given c.args.hook.now; seen = g.H.Hook.seen c.args.hook.now; posted = g.H.Hook.posted c.args.hook.now } in
-    let h : Heard = record { given = g.H.Hook.given c.walk.hook; seen = g.H.Hook.seen c.walk.hook; posted = g.H.Hook.posted c.walk.hook } in
-    let now : Heard = record { given = g.H.Hook.given c.visit.new.hook; seen = g.H.Hook.seen c.visit.new.hook; posted = g.H.Hook.posted c.visit.new.hook } in
+    let first : History = g.H.Hook.history c.args.hook.now in
+    let h : History = g.H.Hook.history c.walk.hook in
+    let now : History = g.H.Hook.history c.visit.new.hook in
     let w = c.walk.invariant.walking in
     let v = c.visit.ensures.visited in
     let at = visited_at problem bounds from to c.walk.tally c.visit.new.tally v.0 v.1 c.visit.result visit.Leaf c.in-Leaf.is v.3 in
@@ -248,9 +248,9 @@ walk-preserved g c =
     let root = c.args.branch.now.context in
     let from = c.walk.branch.context in
     let to = c.visit.new.branch.context in
-    let first : Heard = record { given = g.H.Hook.given c.args.hook.now; seen = g.H.Hook.seen c.args.hook.now; posted = g.H.Hook.posted c.args.hook.now } in
-    let h : Heard = record { given = g.H.Hook.given c.walk.hook; seen = g.H.Hook.seen c.walk.hook; posted = g.H.Hook.posted c.walk.hook } in
-    let now : Heard = record { given = g.H.Hook.given c.visit.new.hook; seen = g.H.Hook.seen c.visit.new.hook; posted = g.H.Hook.posted c.visit.new.hook } in
+    let first : History = g.H.Hook.history c.args.hook.now in
+    let h : History = g.H.Hook.history c.walk.hook in
+    let now : History = g.H.Hook.history c.visit.new.hook in
     let w = c.walk.invariant.walking in
     let v = c.visit.ensures.visited in
     let at = visited_at problem bounds from to c.walk.tally c.visit.new.tally v.0 v.1 c.visit.result visit.Leaf c.in-Leaf.is v.3 in
@@ -273,9 +273,9 @@ returns-in-Exhausted-clause-walked g c =
     let root = c.args.branch.now.context in
     let from = c.walk.branch.context in
     let to = c.visit.new.branch.context in
-    let first : Heard = record { given = g.H.Hook.given c.args.hook.now; seen = g.H.Hook.seen c.args.hook.now; posted = g.H.Hook.posted c.args.hook.now } in
-    let h : Heard = record { given = g.H.Hook.given c.walk.hook; seen = g.H.Hook.seen c.walk.hook; posted = g.H.Hook.posted c.walk.hook } in
-    let now : Heard = record { given = g.H.Hook.given c.visit.new.hook; seen = g.H.Hook.seen c.visit.new.hook; posted = g.H.Hook.posted c.visit.new.hook } in
+    let first : History = g.H.Hook.history c.args.hook.now in
+    let h : History = g.H.Hook.history c.walk.hook in
+    let now : History = g.H.Hook.history c.visit.new.hook in
     let w = c.walk.invariant.walking in
     let v = c.visit.ensures.visited in
     let at = visited_at problem bounds from to c.walk.tally c.visit.new.tally v.0 v.1 c.visit.result (visit.Exhausted c.in-Exhausted.key) c.in-Exhausted.is v.3 in
@@ -288,9 +288,9 @@ returns-in-Cut-clause-walked g c =
     let root = c.args.branch.now.context in
     let from = c.walk.branch.context in
     let to = c.visit.new.branch.context in
-    let first : Heard = record { given = g.H.Hook.given c.args.hook.now; seen = g.H.Hook.seen c.args.hook.now; posted = g.H.Hook.posted c.args.hook.now } in
-    let h : Heard = record { given = g.H.Hook.given c.walk.hook; seen = g.H.Hook.seen c.walk.hook; posted = g.H.Hook.posted c.walk.hook } in
-    let now : Heard = record { given = g.H.Hook.given c.visit.new.hook; seen = g.H.Hook.seen c.visit.new.hook; posted = g.H.Hook.posted c.visit.new.hook } in
+    let first : History = g.H.Hook.history c.args.hook.now in
+    let h : History = g.H.Hook.history c.walk.hook in
+    let now : History = g.H.Hook.history c.visit.new.hook in
     let w = c.walk.invariant.walking in
     let v = c.visit.ensures.visited in
     let at = visited_at problem bounds from to c.walk.tally c.visit.new.tally v.0 v.1 c.visit.result (visit.Cut c.in-Cut.key) c.in-Cut.is v.3 in
@@ -304,9 +304,9 @@ returns-in-Lost-clause-walked g c =
     let root = c.args.branch.now.context in
     let from = c.walk.branch.context in
     let to = c.visit.new.branch.context in
-    let first : Heard = record { given = g.H.Hook.given c.args.hook.now; seen = g.H.Hook.seen c.args.hook.now; posted = g.H.Hook.posted c.args.hook.now } in
-    let h : Heard = record { given = g.H.Hook.given c.walk.hook; seen = g.H.Hook.seen c.walk.hook; posted = g.H.Hook.posted c.walk.hook } in
-    let now : Heard = record { given = g.H.Hook.given c.visit.new.hook; seen = g.H.Hook.seen c.visit.new.hook; posted = g.H.Hook.posted c.visit.new.hook } in
+    let first : History = g.H.Hook.history c.args.hook.now in
+    let h : History = g.H.Hook.history c.walk.hook in
+    let now : History = g.H.Hook.history c.visit.new.hook in
     let w = c.walk.invariant.walking in
     let v = c.visit.ensures.visited in
     let at = visited_at problem bounds from to c.walk.tally c.visit.new.tally v.0 v.1 c.visit.result visit.Lost c.in-Lost.is v.3 in
@@ -320,13 +320,13 @@ returns-in-Cut-clause-quiet g c = λ unheard.
     let root = c.args.branch.now.context in
     let from = c.walk.branch.context in
     let to = c.visit.new.branch.context in
-    let first : Heard = record { given = g.H.Hook.given c.args.hook.now; seen = g.H.Hook.seen c.args.hook.now; posted = g.H.Hook.posted c.args.hook.now } in
-    let h : Heard = record { given = g.H.Hook.given c.walk.hook; seen = g.H.Hook.seen c.walk.hook; posted = g.H.Hook.posted c.walk.hook } in
-    let now : Heard = record { given = g.H.Hook.given c.visit.new.hook; seen = g.H.Hook.seen c.visit.new.hook; posted = g.H.Hook.posted c.visit.new.hook } in
+    let first : History = g.H.Hook.history c.args.hook.now in
+    let h : History = g.H.Hook.history c.walk.hook in
+    let now : History = g.H.Hook.history c.visit.new.hook in
     let w = c.walk.invariant.walking in
     let v = c.visit.ensures.visited in
     let at = visited_at problem bounds from to c.walk.tally c.visit.new.tally v.0 v.1 c.visit.result (visit.Cut c.in-Cut.key) c.in-Cut.is v.3 in
-    absurd (told_longer c.in-Cut.key first.seen h.seen now.seen w.told v.0 w.hears.seen v.2.seen at.0 unheard)
+    absurd (told_longer c.in-Cut.key first.told h.told now.told w.told v.0 w.extends.told_are v.2.told_are at.0 unheard)
 
 pub lose-requires : goal.lose-requires
 lose-requires g c =
@@ -335,9 +335,9 @@ lose-requires g c =
     let root = c.args.branch.now.context in
     let from = c.walk.branch.context in
     let to = c.visit.new.branch.context in
-    let first : Heard = record { given = g.H.Hook.given c.args.hook.now; seen = g.H.Hook.seen c.args.hook.now; posted = g.H.Hook.posted c.args.hook.now } in
-    let h : Heard = record { given = g.H.Hook.given c.walk.hook; seen = g.H.Hook.seen c.walk.hook; posted = g.H.Hook.posted c.walk.hook } in
-    let now : Heard = record { given = g.H.Hook.given c.visit.new.hook; seen = g.H.Hook.seen c.visit.new.hook; posted = g.H.Hook.posted c.visit.new.hook } in
+    let first : History = g.H.Hook.history c.args.hook.now in
+    let h : History = g.H.Hook.history c.walk.hook in
+    let now : History = g.H.Hook.history c.visit.new.hook in
     let w = c.walk.invariant.walking in
     let v = c.visit.ensures.visited in
     let at = visited_at problem bounds from to c.walk.tally c.visit.new.tally v.0 v.1 c.visit.result visit.Leaf c.in-Leaf.is v.3 in
@@ -350,9 +350,9 @@ lose-requires-in-Lost g c =
     let root = c.args.branch.now.context in
     let from = c.walk.branch.context in
     let to = c.visit.new.branch.context in
-    let first : Heard = record { given = g.H.Hook.given c.args.hook.now; seen = g.H.Hook.seen c.args.hook.now; posted = g.H.Hook.posted c.args.hook.now } in
-    let h : Heard = record { given = g.H.Hook.given c.walk.hook; seen = g.H.Hook.seen c.walk.hook; posted = g.H.Hook.posted c.walk.hook } in
-    let now : Heard = record { given = g.H.Hook.given c.visit.new.hook; seen = g.H.Hook.seen c.visit.new.hook; posted = g.H.Hook.posted c.visit.new.hook } in
+    let first : History = g.H.Hook.history c.args.hook.now in
+    let h : History = g.H.Hook.history c.walk.hook in
+    let now : History = g.H.Hook.history c.visit.new.hook in
     let w = c.walk.invariant.walking in
     let v = c.visit.ensures.visited in
     let at = visited_at problem bounds from to c.walk.tally c.visit.new.tally v.0 v.1 c.visit.result visit.Lost c.in-Lost.is v.3 in

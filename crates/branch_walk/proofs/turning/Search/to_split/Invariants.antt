@@ -7,7 +7,7 @@ use Rattle.branch_walk.proofs.turning.Search.to_split.Given as goal
 abbrev pub invariant-down : goal.invariant-down
 invariant-down g l = record {
   of : IsOf l.self.problem.now l.self.bounds.now l.branch;
-  walking : IsDescending l.self.problem.now l.self.bounds.now (l.initial.branch.context) (l.branch.context) (record { given = g.H.Hook.given l.initial.hook; seen = g.H.Hook.seen l.initial.hook; posted = g.H.Hook.posted l.initial.hook }) (record { given = g.H.Hook.given l.hook; seen = g.H.Hook.seen l.hook; posted = g.H.Hook.posted l.hook }) l.initial.tally l.tally;
+  walking : IsDescending l.self.problem.now l.self.bounds.now (l.initial.branch.context) (l.branch.context) (g.H.Hook.history l.initial.hook) (g.H.Hook.history l.hook) l.initial.tally l.tally;
   condition : SameGifts (g.H.Hook.may_give l.initial.hook) (g.H.Hook.may_give l.hook);
 }
 

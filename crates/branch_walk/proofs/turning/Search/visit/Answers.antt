@@ -7,7 +7,7 @@ use Rattle.next_rule.specs.NextLaws.{MayBeAdded}
 use Rattle.branch_walk.specs.Along.{BranchValue, IsOf}
 use Rattle.branch_walk.specs.Walks.{IsVisited}
 use Rattle.branch_walk.proofs.Alongside.{next_of}
-use Rattle.branch_walk.proofs.Visits.{hears_then}
+use Rattle.branch_walk.proofs.Visits.{extends_then}
 use Rattle.branch_walk.proofs.turning.Search.visit.Goals as goal
 
 pub returns-in-Some-clause-visited : goal.returns-in-Some-clause-visited
@@ -44,7 +44,7 @@ returns-in-Ok-clause-visited g c =
     let t = c.told_cut.ensures.told in
     let e = c.enter.ensures.visited in
     let V : BranchValue → Type 0 = λ k. IsVisited c.args.self.now.problem.now c.args.self.now.bounds.now k.context c.enter.new.branch.context c.args.tally.now c.enter.new.tally t.0 e.0 c.enter.result in
-    (t.0, e.0, hears_then t.1 e.1, subst V c.next.ensures.same (e.2 t.0))
+    (t.0, e.0, extends_then t.1 e.1, subst V c.next.ensures.same (e.2 t.0))
 
 pub returns-in-Err-clause-visited : goal.returns-in-Err-clause-visited
 returns-in-Err-clause-visited g c =
