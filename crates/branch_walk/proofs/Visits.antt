@@ -1,5 +1,5 @@
 -- What a visit of a node adds to the tally.
-use Rattle.std.proofs.Common.{◌≡◌, ℕ, Bool, true, false, List, [], ◌∷◌, ◌++◌, Option, append-nil, refl, sym, ap, ◌∙◌}
+use Rattle.std.proofs.Common.{◌≡◌, ℕ, List, [], ◌∷◌, ◌++◌, Option, append-nil, refl, sym, ap, ◌∙◌}
 use Rattle.std.specs.Prelude.{option_to_list}
 use Rattle.me_terms.specs.Values.{ProblemValue, InstanceValue}
 use Rattle.me_terms.specs.Context.{Context}
@@ -11,15 +11,13 @@ use Rattle.me_terms.specs.declared.bounds.Bound.{Bound}
 use Rattle.me_terms.specs.declared.bounds.Bounds.{Bounds}
 use Rattle.me_laws.proofs.Backed.{grown_backed}
 use Rattle.me_laws_existence.proofs.Outcomes.{leaf_list}
-use Rattle.branch_core.specs.Hooks.{ExtendsBy, History, after_gift, after_look, after_post}
+use Rattle.branch_core.specs.Hooks.{ExtendsBy, History, after_look, after_post}
 use Rattle.branch_core.specs.Paths.{Turns}
-use Rattle.branch_core.specs.declared.hook.Give.{Give}
-use Rattle.branch_core.specs.declared.hook.Give.TheVariants.{Away, NoRoom, NotNew}
 use Rattle.branch_core.specs.Pieces.{Piece}
 use Rattle.branch_core.specs.Pieces as piece
 use Rattle.branch_core.specs.SearchTree.{closes, is_bounded}
 use Rattle.branch_walk.specs.Tallies.{IsTally, TakesOwnLeaf}
-use Rattle.branch_walk.specs.Walks.{gift_if, HasLeaf}
+use Rattle.branch_walk.specs.Walks.{HasLeaf}
 use Rattle.branch_walk.specs.declared.tally.Tally.{Tally}
 
 pub extends_then : {a b c : History} {told sent : List ℕ} → ExtendsBy a b [] told [] → ExtendsBy b c [] [] sent → ExtendsBy a c [] told sent
@@ -44,29 +42,6 @@ extends_post {a} {b} k is = record {
   told_are = ap (λ (h : History). h.told) is ∙ sym (append-nil a.told);
   posted_are = ap (λ (h : History). h.posted) is;
 }
-
--- nothing passed
-extends_same : {a b : History} → b ≡ a → ExtendsBy a b [] [] []
-extends_same {a} {b} is = record {
-  given_are = ap (λ (h : History). h.given) is ∙ sym (append-nil a.given);
-  told_are = ap (λ (h : History). h.told) is ∙ sym (append-nil a.told);
-  posted_are = ap (λ (h : History). h.posted) is ∙ sym (append-nil a.posted);
-}
-
--- the walk gave a path away, or did not
-abbrev pub went_away : {J : Type 0} → Give J → Bool
-went_away Away = true
-went_away (NoRoom work) = false
-went_away (NotNew work word) = false
-
-pub extends_gift : {J : Type 0} {a b : History} (path : Turns) (answer : Give J) → b ≡ after_gift a path answer → ExtendsBy a b (gift_if (went_away answer) path) [] []
-extends_gift {J} {a} {b} path Away is = record {
-  given_are = ap (λ (h : History). h.given) is;
-  told_are = ap (λ (h : History). h.told) is ∙ sym (append-nil a.told);
-  posted_are = ap (λ (h : History). h.posted) is ∙ sym (append-nil a.posted);
-}
-extends_gift {J} {a} {b} path (NoRoom work) is = extends_same is
-extends_gift {J} {a} {b} path (NotNew work word) is = extends_same is
 
 pub closed_leaf : (problem : ProblemValue) (bounds : Bounds) (context : Context) → IsGrown problem bounds context → (c : ℕ) (tuple : List ℕ) → IsNext problem bounds context (Close c tuple) → (old new : Tally) → TakesOwnLeaf new → ((leaves : List Piece) (list : List InstanceValue) → IsTally bounds.list old leaves → IsLeafList problem context c tuple list → IsTally bounds.list new (leaves ++ piece.Closed list ∷ [])) → HasLeaf problem bounds context old new
 closed_leaf problem bounds context grown c tuple next old new is_open adds =
