@@ -1,8 +1,8 @@
 mod Bounds
-mod Marks
+pub mod Marks
 mod Means
 mod Places
-mod Reading
+pub mod Reading
 mod Spots
 mod Trees
 mod Written

@@ -85,7 +85,7 @@ empty_piece (Block t) after k = let e : [] ≡ 47 ∷ 42 ∷ k.0 = k.1 in cc
 pub reads_nothing : Reads [] []
 reads_nothing = ([], (refl, empty_piece))
 
-blank_gap : (c : ℕ) (bytes middle : List ℕ) → is_blank c ≡ true → IsGap bytes middle → IsGap (c ∷ bytes) middle
+pub blank_gap : (c : ℕ) (bytes middle : List ℕ) → is_blank c ≡ true → IsGap bytes middle → IsGap (c ∷ bytes) middle
 blank_gap c bytes middle h g = (Blank c ∷ g.0, (bytes, (refl, h), g.1))
 
 pub reads_blank : (c : ℕ) (bytes : List ℕ) (ps : List Printed) → is_blank c ≡ true → Reads bytes ps → Reads (c ∷ bytes) ps
@@ -99,16 +99,19 @@ reads_apart u v rest ps r = subst (λ (x : List ℕ). Reads x ps) (sym (append_a
 
 -- ---- one token
 
-reads_token : (t : TokenValue) (p : Printed) (b : ℕ) (after rest : List ℕ) (ps : List Printed) → terminal t ≡ p.terminal → begins_token b ≡ true → IsFirst t (b ∷ after) rest → Reads rest ps → Reads (b ∷ after) (p ∷ ps)
-reads_token t p b after rest ps e h f r = (rest, record { token = t; middle = b ∷ after; is = e; gap = no_gap b after h; within = omega arith; first = f }, r)
+next_token : (t : TokenValue) (p : Printed) (b : ℕ) (after rest : List ℕ) → terminal t ≡ p.terminal → begins_token b ≡ true → IsFirst t (b ∷ after) rest → Next (b ∷ after) p rest
+next_token t p b after rest e h f = record { token = t; middle = b ∷ after; is = e; gap = no_gap b after h; within = omega arith; first = f }
 
 no_comment : (b : ℕ) (rest : List ℕ) → begins_token b ≡ true → OpensComment (b ∷ rest) → ⊥
 no_comment b rest h c = differ begins_token b 47 (heads b 47 rest (42 ∷ c.0) c.1).0 h refl
 
+pub next_sign : (b : ℕ) (k : TokenKind) (p : Printed) (rest : List ℕ) → lead_of b ≡ lead_of 40 → begins_token b ≡ true → k ≡ sign_kind b → (k ≡ kinds.Bad → ⊥) → terminal (record { kind = k; text = unquoted_text k (b ∷ []) }) ≡ p.terminal → Next (b ∷ rest) p rest
+next_sign b k p rest lead h e n same =
+    next_token (record { kind = k; text = unquoted_text k (b ∷ []) }) p b rest rest same h
+    (sign_first (b ∷ rest) b rest (b ∷ []) k refl (alone_other (b ∷ rest) b rest refl lead) (no_comment b rest h) e n refl)
+
 pub reads_sign : (b : ℕ) (k : TokenKind) (p : Printed) (rest : List ℕ) (ps : List Printed) → lead_of b ≡ lead_of 40 → begins_token b ≡ true → k ≡ sign_kind b → (k ≡ kinds.Bad → ⊥) → terminal (record { kind = k; text = unquoted_text k (b ∷ []) }) ≡ p.terminal → Reads rest ps → Reads (b ∷ rest) (p ∷ ps)
-reads_sign b k p rest ps lead h e n same r =
-    reads_token (record { kind = k; text = unquoted_text k (b ∷ []) }) p b rest rest ps same h
-    (sign_first (b ∷ rest) b rest (b ∷ []) k refl (alone_other (b ∷ rest) b rest refl lead) (no_comment b rest h) e n refl) r
+reads_sign b k p rest ps lead h e n same r = (rest, next_sign b k p rest lead h e n same, r)
 
 lower_begins : (b : ℕ) → is_lower_letter b ≡ true → begins_token b ≡ true
 lower_begins b h = grind (arith, nat_tests)
@@ -116,23 +119,32 @@ lower_begins b h = grind (arith, nat_tests)
 digit_begins : (b : ℕ) → is_digit b ≡ true → begins_token b ≡ true
 digit_begins b h = grind (arith, nat_tests)
 
+pub next_lower : (b : ℕ) (w rest : List ℕ) (p : Printed) → is_lower_letter b ≡ true → list_all is_word_byte w ≡ true → Stops is_word_byte rest → LowerWord (b ∷ w) ≡ p.terminal → Next (b ∷ (w ++ rest)) p rest
+next_lower b w rest p h k s e =
+    next_token (record { kind = kinds.LowerWord; text = b ∷ w }) p b (w ++ rest) rest e (lower_begins b h)
+    (lower_first (b ∷ (w ++ rest)) b (w ++ rest) (b ∷ w) rest refl (lower_lead b h) (w, record { parts = refl; each = k; stops = s }) refl)
+
 pub reads_lower : (b : ℕ) (w rest : List ℕ) (p : Printed) (ps : List Printed) → is_lower_letter b ≡ true → list_all is_word_byte w ≡ true → Stops is_word_byte rest → LowerWord (b ∷ w) ≡ p.terminal → Reads rest ps → Reads (b ∷ (w ++ rest)) (p ∷ ps)
-reads_lower b w rest p ps h k s e r =
-    reads_token (record { kind = kinds.LowerWord; text = b ∷ w }) p b (w ++ rest) rest ps e (lower_begins b h)
-    (lower_first (b ∷ (w ++ rest)) b (w ++ rest) (b ∷ w) rest refl (lower_lead b h) (w, record { parts = refl; each = k; stops = s }) refl) r
+reads_lower b w rest p ps h k s e r = (rest, next_lower b w rest p h k s e, r)
+
+pub next_variable : (w rest : List ℕ) (p : Printed) → list_all is_word_byte w ≡ true → Stops is_word_byte rest → Variable (88 ∷ w) ≡ p.terminal → Next (88 ∷ (w ++ rest)) p rest
+next_variable w rest p k s e =
+    next_token (record { kind = kinds.Variable; text = 88 ∷ w }) p 88 (w ++ rest) rest e refl
+    (upper_first (88 ∷ (w ++ rest)) 88 (w ++ rest) (88 ∷ w) rest refl refl (w, record { parts = refl; each = k; stops = s }) refl)
 
 pub reads_variable : (w rest : List ℕ) (p : Printed) (ps : List Printed) → list_all is_word_byte w ≡ true → Stops is_word_byte rest → Variable (88 ∷ w) ≡ p.terminal → Reads rest ps → Reads (88 ∷ (w ++ rest)) (p ∷ ps)
-reads_variable w rest p ps k s e r =
-    reads_token (record { kind = kinds.Variable; text = 88 ∷ w }) p 88 (w ++ rest) rest ps e refl
-    (upper_first (88 ∷ (w ++ rest)) 88 (w ++ rest) (88 ∷ w) rest refl refl (w, record { parts = refl; each = k; stops = s }) refl) r
+reads_variable w rest p ps k s e r = (rest, next_variable w rest p k s e, r)
 
 no_dollar : (x second : List ℕ) → 102 ∷ x ≡ 36 ∷ second → ⊥
 no_dollar x second e = differ (λ (v : ℕ). v == 102) 102 36 (heads 102 36 x second e).0 refl refl
 
+pub next_false : (rest : List ℕ) (p : Printed) → Stops is_word_byte rest → DollarWord (codes "$false") ≡ p.terminal → Next (codes "$false" ++ rest) p rest
+next_false rest p s e =
+    next_token (record { kind = kinds.DollarWord; text = codes "$false" }) p 36 (codes "false" ++ rest) rest e refl
+    (one_dollar_first (codes "$false" ++ rest) 36 (codes "false" ++ rest) (codes "$false") rest refl refl (λ second f. no_dollar (codes "alse" ++ rest) second f) (codes "false", record { parts = refl; each = refl; stops = s }) refl)
+
 pub reads_false : (rest : List ℕ) (p : Printed) (ps : List Printed) → Stops is_word_byte rest → DollarWord (codes "$false") ≡ p.terminal → Reads rest ps → Reads (codes "$false" ++ rest) (p ∷ ps)
-reads_false rest p ps s e r =
-    reads_token (record { kind = kinds.DollarWord; text = codes "$false" }) p 36 (codes "false" ++ rest) rest ps e refl
-    (one_dollar_first (codes "$false" ++ rest) 36 (codes "false" ++ rest) (codes "$false") rest refl refl (λ second f. no_dollar (codes "alse" ++ rest) second f) (codes "false", record { parts = refl; each = refl; stops = s }) refl) r
+reads_false rest p ps s e r = (rest, next_false rest p s e, r)
 
 -- ---- quotes
 
@@ -145,46 +157,66 @@ closed q text rest h = record { text = text; each = h; is = refl; parts = refl }
 some_escaped : (q : ℕ) (text : List ℕ) → text ≢ [] → escaped q text ≢ []
 some_escaped q text n e = n (sym (unescaped-escaped q text) ∙ ap unescaped e)
 
-pub reads_quoted : (text rest : List ℕ) (p : Printed) (ps : List Printed) → text ≢ [] → list_all is_printable text ≡ true → SingleQuoted text ≡ p.terminal → Reads rest ps → Reads (quoted 39 text ++ rest) (p ∷ ps)
-reads_quoted text rest p ps n h e r =
-    subst (λ (x : List ℕ). Reads x (p ∷ ps)) (sym (quoted_is 39 text rest))
-    (reads_token (record { kind = kinds.SingleQuoted; text = text }) p 39 (escaped 39 text ++ 39 ∷ rest) rest ps e refl
+pub next_quoted : (text rest : List ℕ) (p : Printed) → text ≢ [] → list_all is_printable text ≡ true → SingleQuoted text ≡ p.terminal → Next (quoted 39 text ++ rest) p rest
+next_quoted text rest p n h e =
+    subst (λ (x : List ℕ). Next x p rest) (sym (quoted_is 39 text rest))
+    (next_token (record { kind = kinds.SingleQuoted; text = text }) p 39 (escaped 39 text ++ 39 ∷ rest) rest e refl
     (subst (λ (x : List ℕ). IsFirst (record { kind = kinds.SingleQuoted; text = x }) (39 ∷ (escaped 39 text ++ 39 ∷ rest)) rest) (unescaped-escaped 39 text)
-    (single_first (39 ∷ (escaped 39 text ++ 39 ∷ rest)) 39 (escaped 39 text ++ 39 ∷ rest) (escaped 39 text) rest refl refl (closed 39 text rest h) (some_escaped 39 text n))) r)
+    (single_first (39 ∷ (escaped 39 text ++ 39 ∷ rest)) 39 (escaped 39 text ++ 39 ∷ rest) (escaped 39 text) rest refl refl (closed 39 text rest h) (some_escaped 39 text n))))
+
+pub reads_quoted : (text rest : List ℕ) (p : Printed) (ps : List Printed) → text ≢ [] → list_all is_printable text ≡ true → SingleQuoted text ≡ p.terminal → Reads rest ps → Reads (quoted 39 text ++ rest) (p ∷ ps)
+reads_quoted text rest p ps n h e r = (rest, next_quoted text rest p n h e, r)
+
+pub next_distinct : (text rest : List ℕ) (p : Printed) → list_all is_printable text ≡ true → Distinct text ≡ p.terminal → Next (quoted 34 text ++ rest) p rest
+next_distinct text rest p h e =
+    subst (λ (x : List ℕ). Next x p rest) (sym (quoted_is 34 text rest))
+    (next_token (record { kind = kinds.Distinct; text = text }) p 34 (escaped 34 text ++ 34 ∷ rest) rest e refl
+    (subst (λ (x : List ℕ). IsFirst (record { kind = kinds.Distinct; text = x }) (34 ∷ (escaped 34 text ++ 34 ∷ rest)) rest) (unescaped-escaped 34 text)
+    (distinct_first (34 ∷ (escaped 34 text ++ 34 ∷ rest)) 34 (escaped 34 text ++ 34 ∷ rest) (escaped 34 text) rest refl refl (closed 34 text rest h))))
 
 pub reads_distinct : (text rest : List ℕ) (p : Printed) (ps : List Printed) → list_all is_printable text ≡ true → Distinct text ≡ p.terminal → Reads rest ps → Reads (quoted 34 text ++ rest) (p ∷ ps)
-reads_distinct text rest p ps h e r =
-    subst (λ (x : List ℕ). Reads x (p ∷ ps)) (sym (quoted_is 34 text rest))
-    (reads_token (record { kind = kinds.Distinct; text = text }) p 34 (escaped 34 text ++ 34 ∷ rest) rest ps e refl
-    (subst (λ (x : List ℕ). IsFirst (record { kind = kinds.Distinct; text = x }) (34 ∷ (escaped 34 text ++ 34 ∷ rest)) rest) (unescaped-escaped 34 text)
-    (distinct_first (34 ∷ (escaped 34 text ++ 34 ∷ rest)) 34 (escaped 34 text ++ 34 ∷ rest) (escaped 34 text) rest refl refl (closed 34 text rest h))) r)
+reads_distinct text rest p ps h e r = (rest, next_distinct text rest p h e, r)
 
--- ---- digits before a comma
+-- ---- digits before another byte
 
-comma_not : (n : ℕ) (more x : List ℕ) → (n == 44) ≡ false → 44 ∷ more ≡ n ∷ x → ⊥
-comma_not n more x f e = differ (λ (v : ℕ). v == 44) 44 n (heads 44 n more x e).0 refl f
+-- no number goes on with the byte
+abbrev pub ends_number : ℕ → Bool
+ends_number b = not (is_digit b) && (not (b == 46) && (not (b == 47) && (not (b == 69) && not (b == 101))))
 
-no_tail : (more : List ℕ) → IsAfter IsTail (44 ∷ more) (44 ∷ more)
-no_tail more =
-    let r : List ℕ = 44 ∷ more in
-    tail_real r r r (behind_other 47 r (λ x e. comma_not 47 more x refl e)) (fraction_none r (behind_other 46 r (λ x e. comma_not 46 more x refl e)))
-    (exponent_none r (power_other 101 r (λ x e. comma_not 101 more x refl e)) (power_other 69 r (λ x e. comma_not 69 more x refl e)))
+ends_digits : (b : ℕ) → ends_number b ≡ true → is_digit b ≡ false
+ends_digits b h = by (is_digit b) refl h
+  where
+    by : (v : Bool) → is_digit b ≡ v → (not v && (not (b == 46) && (not (b == 47) && (not (b == 69) && not (b == 101))))) ≡ true → is_digit b ≡ false
+    by true e k = absurd cc
+    by false e k = e
+
+end_not : (b n : ℕ) (more x : List ℕ) → ends_number b ≡ true → ends_number n ≡ false → b ∷ more ≡ n ∷ x → ⊥
+end_not b n more x h f e = differ ends_number b n (heads b n more x e).0 h f
+
+no_tail : (b : ℕ) (more : List ℕ) → ends_number b ≡ true → IsAfter IsTail (b ∷ more) (b ∷ more)
+no_tail b more h =
+    let r : List ℕ = b ∷ more in
+    tail_real r r r (behind_other 47 r (λ x e. end_not b 47 more x h refl e)) (fraction_none r (behind_other 46 r (λ x e. end_not b 46 more x h refl e)))
+    (exponent_none r (power_other 101 r (λ x e. end_not b 101 more x h refl e)) (power_other 69 r (λ x e. end_not b 69 more x h refl e)))
 
 digit_not : (d n : ℕ) (x y : List ℕ) → is_digit d ≡ true → is_digit n ≡ false → d ∷ x ≡ n ∷ y → ⊥
 digit_not d n x y h f e = differ is_digit d n (heads d n x y e).0 h f
 
-is_number : (d : ℕ) (ds more : List ℕ) → IsDigits (d ∷ ds) → IsAfter IsNumber ((d ∷ ds) ++ 44 ∷ more) (44 ∷ more)
-is_number d ds more h =
-    let bytes : List ℕ = d ∷ (ds ++ 44 ∷ more) in
+is_number : (d b : ℕ) (ds more : List ℕ) → ends_number b ≡ true → IsDigits (d ∷ ds) → IsAfter IsNumber ((d ∷ ds) ++ b ∷ more) (b ∷ more)
+is_number d b ds more s h =
+    let bytes : List ℕ = d ∷ (ds ++ b ∷ more) in
     let digit = (all_first is_digit d ds h.1).0 in
-    number bytes bytes (44 ∷ more) (44 ∷ more)
-    (sign_empty bytes (λ x e. digit_not d 43 (ds ++ 44 ∷ more) x digit refl e) (λ x e. digit_not d 45 (ds ++ 44 ∷ more) x digit refl e))
-    (d ∷ ds, record { parts = refl; each = h.1; stops = refl }, h)
-    (no_tail more)
+    number bytes bytes (b ∷ more) (b ∷ more)
+    (sign_empty bytes (λ x e. digit_not d 43 (ds ++ b ∷ more) x digit refl e) (λ x e. digit_not d 45 (ds ++ b ∷ more) x digit refl e))
+    (d ∷ ds, record { parts = refl; each = h.1; stops = ends_digits b s }, h)
+    (no_tail b more s)
 
-pub reads_digits : (text more : List ℕ) (p : Printed) (ps : List Printed) → IsDigits text → Digits text ≡ p.terminal → Reads (44 ∷ more) ps → Reads (text ++ 44 ∷ more) (p ∷ ps)
-reads_digits [] more p ps h e r = absurd (h.0 refl)
-reads_digits (d ∷ ds) more p ps h e r =
-    reads_token (record { kind = kinds.Digits; text = d ∷ ds }) p d (ds ++ 44 ∷ more) (44 ∷ more) ps e (digit_begins d (all_first is_digit d ds h.1).0)
-    (number_first (d ∷ (ds ++ 44 ∷ more)) (d ∷ ds) (44 ∷ more) kinds.Digits (is_number d ds more h) (sym (front_is (d ∷ (ds ++ 44 ∷ more)) (d ∷ ds) (44 ∷ more) refl))
-    (sym (ap (λ (v : Bool). if v then kinds.Digits else kinds.Number) h.1))) r
+pub next_digits : (text : List ℕ) (b : ℕ) (more : List ℕ) (p : Printed) → ends_number b ≡ true → IsDigits text → Digits text ≡ p.terminal → Next (text ++ b ∷ more) p (b ∷ more)
+next_digits [] b more p s h e = absurd (h.0 refl)
+next_digits (d ∷ ds) b more p s h e =
+    next_token (record { kind = kinds.Digits; text = d ∷ ds }) p d (ds ++ b ∷ more) (b ∷ more) e (digit_begins d (all_first is_digit d ds h.1).0)
+    (number_first (d ∷ (ds ++ b ∷ more)) (d ∷ ds) (b ∷ more) kinds.Digits (is_number d b ds more s h) (sym (front_is (d ∷ (ds ++ b ∷ more)) (d ∷ ds) (b ∷ more) refl))
+    (sym (ap (λ (v : Bool). if v then kinds.Digits else kinds.Number) h.1)))
+
+pub reads_digits : (text : List ℕ) (b : ℕ) (more : List ℕ) (p : Printed) (ps : List Printed) → ends_number b ≡ true → IsDigits text → Digits text ≡ p.terminal → Reads (b ∷ more) ps → Reads (text ++ b ∷ more) (p ∷ ps)
+reads_digits text b more p ps s h e r = (b ∷ more, next_digits text b more p s h e, r)

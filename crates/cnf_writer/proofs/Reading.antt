@@ -41,7 +41,7 @@ digits_word : (ds : List ℕ) → AllDigits 10 ds → list_all is_word_byte ds �
 digits_word [] h = refl
 digits_word (c ∷ ds) h = let r = digit_from_value c h.0 in all_more is_word_byte c ds (word_digit c r.0 r.1) (digits_word ds h.1)
 
-decimal_word : (n : ℕ) → n < 2 ^ 64 → list_all is_word_byte (decimal n) ≡ true
+pub decimal_word : (n : ℕ) → n < 2 ^ 64 → list_all is_word_byte (decimal n) ≡ true
 decimal_word n h = digits_word (decimal n) (decimal_is_IsNumeral n h).0.1
 
 bare_reads : (text rest : List ℕ) (p : Printed) (ps : List Printed) → is_lower_word text ≡ true → Stops is_word_byte rest → LowerWord text ≡ p.terminal → Reads rest ps → Reads (text ++ rest) (p ∷ ps)
@@ -50,7 +50,7 @@ bare_reads (b ∷ w) rest p ps h s e r =
     let k = both_parts (is_lower_letter b) (list_all is_word_byte w) h in
     reads_lower b w rest p ps k.0 k.1 s e r
 
-name_reads : (text rest : List ℕ) (p : Printed) (ps : List Printed) → IsReadableAs form.Word text → Stops is_word_byte rest → name_terminal (name_of text) ≡ p.terminal → Reads rest ps → Reads (form_text form.Word text ++ rest) (p ∷ ps)
+pub name_reads : (text rest : List ℕ) (p : Printed) (ps : List Printed) → IsReadableAs form.Word text → Stops is_word_byte rest → name_terminal (name_of text) ≡ p.terminal → Reads rest ps → Reads (form_text form.Word text ++ rest) (p ∷ ps)
 name_reads text rest p ps h s e r = by (is_lower_word text) refl e
   where
     by : (b : Bool) → is_lower_word text ≡ b → name_terminal (name_if b text) ≡ p.terminal → Reads ((if b then text else quoted 39 text) ++ rest) (p ∷ ps)
@@ -60,7 +60,7 @@ name_reads text rest p ps h s e r = by (is_lower_word text) refl e
 label_reads : (f : Form) (text more : List ℕ) (ps : List Printed) → IsReadableAs f text → f ≢ form.Distinct → Reads (44 ∷ more) ps → Reads (form_text f text ++ 44 ∷ more) (as_part LabelPart (label_terminal (label_as f text)) ∷ ps)
 label_reads form.Word text more ps h n r = name_reads text (44 ∷ more) (as_part LabelPart (name_terminal (name_of text))) ps h refl refl r
 label_reads form.Distinct text more ps h n r = absurd (n refl)
-label_reads form.Number text more ps h n r = reads_digits text more (as_part LabelPart (label_terminal (label_as form.Number text))) ps h refl r
+label_reads form.Number text more ps h n r = reads_digits text 44 more (as_part LabelPart (label_terminal (label_as form.Number text))) ps refl h refl r
 
 -- ---- signs
 
