@@ -63,7 +63,7 @@ count_taken n xs taken h e = ap length (e ∙ take_all n xs h) ∙ h
 
 -- ---- what is said of nodes
 
-functions_both : (xs ys : List Node) → node_functions (xs ++ ys) ≡ node_functions xs ++ node_functions ys
+pub functions_both : (xs ys : List Node) → node_functions (xs ++ ys) ≡ node_functions xs ++ node_functions ys
 functions_both [] ys = refl
 functions_both (Variable x ∷ xs) ys = functions_both xs ys
 functions_both (Function f n ∷ xs) ys = ap (λ (v : List ℕ). f ∷ v) (functions_both xs ys)
@@ -88,7 +88,7 @@ all_back : {X : Type 0} (P : X → Type 0) (xs ys : List X) → AllByRecursion P
 all_back P [] ys h = h
 all_back P (x ∷ xs) ys h = all_back P xs ys h.1
 
-both_true : (a b : Bool) → a ≡ true → b ≡ true → (a && b) ≡ true
+pub both_true : (a b : Bool) → a ≡ true → b ≡ true → (a && b) ≡ true
 both_true a b h k = rw h (rw k refl)
 
 module _ (signature : SignatureValue) where

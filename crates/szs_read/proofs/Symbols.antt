@@ -75,7 +75,7 @@ found_or {X} p x xs false e h more =
     let e : 1 + position_or_len p xs ≡ suc (position_or_len p xs) = omega arith in
     (f.0, ap (λ (k : ℕ). slice_get (x ∷ xs) k) e ∙ f.1, f.2)
 
-found : {X : Type 0} (p : X → Bool) (xs : List X) → list_any p xs ≡ true → (y : X) × (slice_get xs (position_or_len p xs) ≡ Some y) × (p y ≡ true)
+pub found : {X : Type 0} (p : X → Bool) (xs : List X) → list_any p xs ≡ true → (y : X) × (slice_get xs (position_or_len p xs) ≡ Some y) × (p y ≡ true)
 found p [] h = absurd cc
 found p (x ∷ xs) h = found_or p x xs (p x) refl h (found p xs)
 
@@ -103,13 +103,13 @@ symbols_stay xs ys (n ∷ ns) l h =
 pub one_at : (symbols : List SymbolValue) (n : ℕ) (s : SymbolValue) → slice_get symbols n ≡ Some s → symbols_at symbols (n ∷ []) ≡ s ∷ []
 one_at symbols n s h = ap (λ (o : Option SymbolValue). option_to_list o ++ []) h
 
-at_both : (symbols : List SymbolValue) (ms ns : List ℕ) → symbols_at symbols (ms ++ ns) ≡ symbols_at symbols ms ++ symbols_at symbols ns
+pub at_both : (symbols : List SymbolValue) (ms ns : List ℕ) → symbols_at symbols (ms ++ ns) ≡ symbols_at symbols ms ++ symbols_at symbols ns
 at_both symbols [] ns = refl
 at_both symbols (m ∷ ms) ns =
     ap (λ (v : List SymbolValue). option_to_list (slice_get symbols m) ++ v) (at_both symbols ms ns)
     ∙ sym (append_assoc (option_to_list (slice_get symbols m)) (symbols_at symbols ms) (symbols_at symbols ns))
 
-with_both : (xs ys known : List SymbolValue) → with_symbols known (xs ++ ys) ≡ with_symbols (with_symbols known xs) ys
+pub with_both : (xs ys known : List SymbolValue) → with_symbols known (xs ++ ys) ≡ with_symbols (with_symbols known xs) ys
 with_both [] ys known = refl
 with_both (x ∷ xs) ys known = with_both xs ys (with_symbol known x)
 

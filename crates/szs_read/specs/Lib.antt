@@ -1,8 +1,13 @@
 pub mod Answers
-pub mod Claims
 pub mod ClaimText
+pub mod Claims
+pub mod Coming
+pub mod Finds
+pub mod LineTokens
 pub mod Lines
 pub mod Longer
+pub mod Nexts
+pub mod Passes
 pub mod Printed
 pub mod Reads
 pub mod RowItems

@@ -28,6 +28,11 @@ node_functions [] = []
 node_functions (Variable x ∷ nodes) = node_functions nodes
 node_functions (Function f n ∷ nodes) = f ∷ node_functions nodes
 
+-- it is a function that takes more arguments than these
+abbrev pub TakesMore : Node → ℕ → Type 0
+TakesMore (Variable x) n = ⊥
+TakesMore (Function f m) n = n < m
+
 -- the variable has 32 bits, or there is such a function and it takes so many arguments
 abbrev pub IsNode : List SymbolValue → Node → Type 0
 IsNode functions (Variable x) = x < 2 ^ 32

@@ -2,10 +2,11 @@
 //!
 //! The row is read from its end: each node takes as many of the terms behind it as it has arguments. So
 //! no call goes down into a term, however deep it is.
-ghost use Rattle.std.specs.Prelude.{◌≡◌, ◌≤◌, ◌++◌, [], ◌∷◌, map, reverse, take, drop, length, IsTrue, IfOk, IfSome, OnOk};
+ghost use Rattle.std.specs.Prelude.{◌≡◌, ◌≤◌, ◌++◌, [], ◌∷◌, map, reverse, take, drop, length, IsTrue, IsFalse, IfOk, IfSome, OnOk};
 ghost use Rattle.me_terms.specs.TermViews.{term_value};
 ghost use Rattle.me_terms.specs.Terms.{arguments_of};
-ghost use Rattle.szs_read.specs.Rows.{nodes_of};
+ghost use Rattle.szs_read.specs.Finds.{FindsTerms};
+ghost use Rattle.szs_read.specs.Rows.{nodes_of, TakesMore};
 
 use crate::number::Node;
 use me_terms::{Term, Terms};
@@ -47,7 +48,8 @@ fn taken(alloc: Global, stack: &mut Vec<Term>, count: u32) -> Result<Terms, Allo
 
 /// Puts the term of a node onto the stack. Its arguments are taken off, if there are so many.
 fn put(alloc: Global, node: Node, stack: &mut Vec<Term>) -> Result<bool, AllocError>
-    ensures { IfOk result (λ fits. IsTrue fits → nodes_of (arguments_of (map term_value (reverse stack.new.items))) ≡ node ∷ nodes_of (arguments_of (map term_value (reverse stack.old.items)))) }
+    ensures nodes { IfOk result (λ fits. IsTrue fits → nodes_of (arguments_of (map term_value (reverse stack.new.items))) ≡ node ∷ nodes_of (arguments_of (map term_value (reverse stack.old.items)))) }
+    ensures few { IfOk result (λ fits. IsFalse fits → TakesMore node (length stack.old.items)) }
 {
     match node {
         Node::Variable(x) => stack.push(Term::Var(x))?,
@@ -66,6 +68,7 @@ fn put(alloc: Global, node: Node, stack: &mut Vec<Term>) -> Result<bool, AllocEr
 pub(crate) fn build(alloc: Global, nodes: &[Node], count: u32) -> Result<Option<Terms>, AllocError>
     ensures nodes { IfOk result (λ built. IfSome built (λ terms. nodes_of (arguments_of terms.items) ≡ nodes.now)) }
     ensures count { IfOk result (λ built. IfSome built (λ terms. length terms.items ≡ count)) }
+    ensures same { IfOk result (FindsTerms nodes.now count) }
 {
     let mut stack = Vec::new(alloc);
     let mut left = nodes.len();

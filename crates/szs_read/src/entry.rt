@@ -1,9 +1,13 @@
 //! The lines of a model.
-ghost use Rattle.std.specs.Prelude.{◌≡◌, ◌+◌, ◌-◌, ◌≤◌, ◌<◌, ◌^◌, ◌++◌, [], ◌∷◌, ℕ, List, length, IfOk, IfSome, OnOk};
+ghost use Rattle.std.specs.Prelude.{◌≡◌, ◌+◌, ◌-◌, ◌≤◌, ◌<◌, ◌^◌, ◌++◌, [], ◌∷◌, ℕ, List, length, Some, IfOk, IfSome, OnOk};
 ghost use Rattle.me_terms.specs.declared.bounds.TheConstants.{MAX_ENTRIES as MOST_ENTRIES};
 ghost use Rattle.szs_read.specs.Claims.{IsEntryLine, IsGrownBy};
 ghost use Rattle.szs_read.specs.ClaimText.{entry_line};
 ghost use Rattle.me_terms.specs.Values.{SignatureValue};
+ghost use Rattle.me_terms.specs.declared.entry.Kind.{Kind as KindValue};
+ghost use Rattle.tptp_tokens.specs.Tokens.{TokenValue};
+ghost use Rattle.szs_read.specs.Finds.{FindsEntryText, FindsEntryAs, FindsEntry, kind_token, position_token};
+ghost use Rattle.szs_read.specs.LineTokens.{AreLeft};
 ghost use Rattle.szs_read.specs.Longer.{IsLonger};
 ghost use Rattle.szs_read.specs.Reads.{IsReadEntry, AreEntries};
 
@@ -36,6 +40,7 @@ fn push_entry(out: &mut Vec<u8>, signature: &Signature, line: &EntryLine) -> Res
 fn read_position(tokens: &mut Tokenizer<'_>, last: u32) -> Option<u32>
     ensures at { IfSome result (λ at. (last < at) × (at < MOST_ENTRIES)) }
     ensures shorter { length tokens.new.bytes ≤ length tokens.old.bytes }
+    ensures same { (at : ℕ) (ts : List TokenValue) → last < at → at < MOST_ENTRIES → AreLeft tokens.old.bytes (position_token at ∷ ts) → (result ≡ Some at) × AreLeft tokens.new.bytes ts }
 {
     let token = next_token(tokens)?;
     let (_, digits) = token.text.split_first()?;
@@ -46,7 +51,9 @@ fn read_position(tokens: &mut Tokenizer<'_>, last: u32) -> Option<u32>
 }
 
 /// The kind that comes next.
-fn read_kind(tokens: &mut Tokenizer<'_>) -> Option<Kind> {
+fn read_kind(tokens: &mut Tokenizer<'_>) -> Option<Kind>
+    ensures { (kind : KindValue) (ts : List TokenValue) → AreLeft tokens.old.bytes (kind_token kind ∷ ts) → result ≡ Some kind }
+{
     let token = next_token(tokens)?;
     if token.text == b"universal".as_slice() {
         Some(Kind::Universal)
@@ -67,6 +74,7 @@ fn read_loosely(
     ensures rises { IfOk result (λ read. IfSome read (λ entry. last < entry.at)) }
     ensures grown { IfOk result (λ read. IfSome read (λ entry. IsGrownBy signature.old (entry.literal ∷ []) signature.new)) }
     ensures longer { IsLonger signature.old signature.new (length line.now) 0 }
+    ensures same { IfOk result (FindsEntryText signature.old signature.new last line.now) }
 {
     let mut tokens = Tokenizer::new(line);
     skip(&mut tokens, 2);
@@ -94,6 +102,7 @@ fn read_entry(
     requires room { length signature.old.functions + length signature.old.predicates + length line.now < 2 ^ 32 - 1 }
     ensures read { IfOk result (λ read. IfSome read (IsReadEntry signature.old signature.new last line.now)) }
     ensures longer { IsLonger signature.old signature.new (length line.now) 0 }
+    ensures same { IfOk result (FindsEntryAs signature.old signature.new last line.now) }
 {
     let Some(entry) = read_loosely(alloc, line, last, signature)? else {
         return Ok(None);
@@ -119,6 +128,7 @@ pub(crate) fn read_next_entry(
     requires { length signature.old.functions + length signature.old.predicates + length line.now < 2 ^ 32 - 1 }
     ensures read { IfOk result (λ read. IfSome read (λ at. (old : SignatureValue) (bytes : List ℕ) → AreEntries old signature.old last bytes list.old.items → AreEntries old signature.new at (bytes ++ line.now) list.new.items)) }
     ensures longer { IsLonger signature.old signature.new (length line.now) 0 }
+    ensures same { IfOk result (FindsEntry signature.old signature.new last line.now) }
 {
     match read_entry(alloc, line, last, signature)? {
         Some(entry) => {

@@ -1,10 +1,16 @@
 //! The lines of a refutation.
-ghost use Rattle.std.specs.Prelude.{◌≡◌, ◌+◌, ◌-◌, ◌≤◌, ◌<◌, ◌^◌, ◌++◌, ℕ, List, length, IsTrue, IfOk, IfSome, OnOk};
+ghost use Rattle.std.specs.Prelude.{◌≡◌, ◌≢◌, ◌+◌, ◌-◌, ◌≤◌, ◌<◌, ◌^◌, ◌++◌, ◌∷◌, ℕ, List, decimal, length, Some, IsTrue, IsSome, IfOk, IfSome, OnOk};
 ghost use Rattle.me_terms.specs.Labels.{IsClauseLabel};
+ghost use Rattle.me_terms.specs.declared.symbol.Form.TheVariants.{Distinct};
 ghost use Rattle.tptp_grammar.specs.declared.limits.TheConstants.{MAX_FORMULAS as MAX_NUMBER};
 ghost use Rattle.szs_read.specs.Claims.{IsInstanceLine, IsGrownBy};
 ghost use Rattle.szs_read.specs.ClaimText.{instance_line};
 ghost use Rattle.me_terms.specs.Values.{SignatureValue};
+ghost use Rattle.me_terms.specs.Values.{LabelValue};
+ghost use Rattle.tptp_tokens.specs.Tokens.{TokenValue};
+ghost use Rattle.tptp_tokens.specs.declared.token.TokenKind.TheVariants.{Digits};
+ghost use Rattle.szs_read.specs.Finds.{FindsInstanceText, FindsInstance};
+ghost use Rattle.szs_read.specs.LineTokens.{AreLeft, token, label_token};
 ghost use Rattle.szs_read.specs.Longer.{IsLonger};
 ghost use Rattle.szs_read.specs.Reads.{IsReadInstance, AreInstances};
 
@@ -45,7 +51,8 @@ fn push_instance(
 
 /// The number of a formula that comes next.
 fn read_number(tokens: &mut Tokenizer<'_>) -> Option<u32>
-    ensures { IfSome result (λ number. (1 ≤ number) × (number ≤ MAX_NUMBER)) }
+    ensures lawful { IfSome result (λ number. (1 ≤ number) × (number ≤ MAX_NUMBER)) }
+    ensures same { (n : ℕ) (ts : List TokenValue) → 1 ≤ n → n ≤ MAX_NUMBER → AreLeft tokens.old.bytes (token Digits (decimal n) ∷ ts) → (result ≡ Some n) × AreLeft tokens.new.bytes ts }
 {
     match next_token(tokens) {
         Some(token) => match number_of(token.text) {
@@ -56,15 +63,27 @@ fn read_number(tokens: &mut Tokenizer<'_>) -> Option<u32>
     }
 }
 
+/// Whether a formula may have the label, which is one that can be read.
+fn is_formula_label(label: &Label) -> bool
+    ensures form { IsTrue result → label.now.form ≢ Distinct }
+    ensures all { label.now.form ≢ Distinct → IsTrue result }
+{
+    match label.form {
+        Form::Distinct => false,
+        _ => true,
+    }
+}
+
 /// The label of a formula that comes next.
 fn read_label(alloc: Global, tokens: &mut Tokenizer<'_>) -> Result<Option<Label>, AllocError>
-    ensures { IfOk result (λ read. IfSome read IsClauseLabel) }
+    ensures lawful { IfOk result (λ read. IfSome read IsClauseLabel) }
+    ensures same { IfOk result (λ read. (label : LabelValue) (ts : List TokenValue) → IsClauseLabel label → AreLeft tokens.old.bytes (label_token label ∷ ts) → read ≡ Some label) }
 {
     let Some(token) = next_token(tokens) else {
         return Ok(None);
     };
     match label_of(alloc, &token)? {
-        Some(label) if label.form != Form::Distinct => Ok(Some(label)),
+        Some(label) if is_formula_label(&label) => Ok(Some(label)),
         _ => Ok(None),
     }
 }
@@ -79,6 +98,7 @@ fn read_loosely(
     ensures lawful { IfOk result (λ read. IfSome read (IsInstanceLine signature.new)) }
     ensures grown { IfOk result (λ read. IfSome read (λ instance. IsGrownBy signature.old instance.literals signature.new)) }
     ensures longer { IsLonger signature.old signature.new (length line.now) 0 }
+    ensures same { IfOk result (FindsInstanceText signature.old signature.new line.now) }
 {
     let mut tokens = Tokenizer::new(line);
     skip(&mut tokens, HEAD_TOKENS);
@@ -110,6 +130,7 @@ fn read_instance(
     requires room { length signature.old.functions + length signature.old.predicates + length line.now < 2 ^ 32 - 1 }
     ensures read { IfOk result (λ read. IfSome read (IsReadInstance signature.old signature.new k line.now)) }
     ensures longer { IsLonger signature.old signature.new (length line.now) 0 }
+    ensures same { IfOk result (λ read. FindsInstance signature.old signature.new k line.now (IsSome read)) }
 {
     let Some(instance) = read_loosely(alloc, line, signature)? else {
         return Ok(None);
@@ -136,6 +157,7 @@ pub(crate) fn read_next_instance(
     ensures read { IfOk result (λ is. IsTrue is → (old : SignatureValue) (bytes : List ℕ) → AreInstances old signature.old bytes list.old.items → AreInstances old signature.new (bytes ++ line.now) list.new.items) }
     ensures count { IfOk result (λ is. IsTrue is → length list.new.items ≡ length list.old.items + 1) }
     ensures longer { IsLonger signature.old signature.new (length line.now) 0 }
+    ensures same { IfOk result (λ is. FindsInstance signature.old signature.new (length list.old.items + 1) line.now (IsTrue is)) }
 {
     match read_instance(alloc, line, list.len() + 1, signature)? {
         Some(instance) => {

@@ -1,8 +1,8 @@
 //! Printed answers are read back.
 //!
-//! What `read_answer` gives is a claim whose text the bytes are, as `szs_print` writes it; else it gives the
-//! line at which it stopped. What a line says is read from its tokens without a grammar, and the line is
-//! accepted where it is the text of what was read, byte for byte.
+//! What `read_answer` gives is the claim whose text the bytes are, as `szs_print` writes it; where they are
+//! that of none, it gives the first line with which no answer goes on. What a line says is read from its
+//! tokens without a grammar, and the line is accepted where it is the text of what was read, byte for byte.
 #![tactic(auto)]
 
 mod build;

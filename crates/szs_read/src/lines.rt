@@ -10,7 +10,8 @@ pub(crate) struct Lines<'a> {
 }
 
 impl<'a> Lines<'a> {
-    ghost use Rattle.std.specs.Prelude.{◌≡◌, ◌+◌, ◌≤◌, ◌<◌, ◌^◌, ◌++◌, [], length, take, IsTrue, IfSome};
+    ghost use Rattle.std.specs.Prelude.{◌≡◌, ◌+◌, ◌≤◌, ◌<◌, ◌^◌, ◌++◌, ℕ, List, [], length, take, IsTrue, IsFalse, IfSome, IfNone};
+    ghost use Rattle.szs_read.specs.Passes.{IsLine};
 
     pub(crate) fn new(bytes: &'a [u8]) -> Self
         ensures { (result.rest.now ≡ bytes.now) × (result.passed ≡ 0) }
@@ -24,10 +25,12 @@ impl<'a> Lines<'a> {
     /// The next line, up to and with its line feed. There is none where no line feed is left.
     pub(crate) fn first(&self) -> Option<&'a [u8]>
         ensures front { IfSome result (λ line. take (length line.now) self.now.rest.now ≡ line.now) }
+        ensures line { IfSome result (λ line. IsLine line.now) }
+        ensures none { IfNone result ((line rest : List ℕ) → IsLine line → self.now.rest.now ≡ line ++ rest → ⊥) }
         ensures some { IfSome result (λ line. (1 ≤ length line.now) × (length line.now ≤ length self.now.rest.now)) }
     {
         let rest = self.rest;
-        for k in 0..rest.len() {
+        'bytes: for k in 0..rest.len() {
             if rest[k] == b'\n' {
                 return Some(&rest[..k + 1]);
             }
@@ -50,7 +53,8 @@ impl<'a> Lines<'a> {
 
     /// Nothing is left.
     pub(crate) fn is_at_end(&self) -> bool
-        ensures { IsTrue result → self.now.rest.now ≡ [] }
+        ensures empty { IsTrue result → self.now.rest.now ≡ [] }
+        ensures some { IsFalse result → self.now.rest.now ≡ [] → ⊥ }
     {
         self.rest.is_empty()
     }

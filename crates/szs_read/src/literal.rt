@@ -4,6 +4,7 @@
 //! what it was read from, and who reads a line compares.
 ghost use Rattle.std.specs.Prelude.{◌≡◌, ◌+◌, ◌-◌, ◌≤◌, ◌<◌, ◌^◌, [], ◌∷◌, length, IfOk, IfSome};
 ghost use Rattle.std.specs.List.{AllByRecursion};
+ghost use Rattle.szs_read.specs.Finds.{FindsLiteral, FindsLiterals};
 ghost use Rattle.szs_read.specs.Longer.{IsLonger};
 ghost use Rattle.szs_read.specs.RowItems.{IsItem};
 ghost use Rattle.szs_read.specs.Rows.{AreRead};
@@ -27,7 +28,9 @@ pub(crate) fn literal_of(
     requires room { length signature.old.functions + length signature.old.predicates + length row.now.items.items < 2 ^ 32 - 1 }
     requires brackets { brackets ≤ 1000 }
     ensures read { IfOk result (λ read. IfSome read (λ literal. AreRead signature.old signature.new brackets (literal ∷ []))) }
+    ensures sign { IfOk result (λ read. IfSome read (λ literal. literal.positive ≡ row.now.positive)) }
     ensures longer { IsLonger signature.old signature.new (length row.now.items.items) 0 }
+    ensures same { IfOk result (FindsLiteral signature.old signature.new brackets row.now) }
 {
     let Some((first, others)) = row.items.split_first() else {
         return Ok(None);
@@ -63,6 +66,7 @@ pub(crate) fn read_literals(
     requires brackets { brackets ≤ 1000 }
     ensures read { IfOk result (λ read. IfSome read (λ literals. AreRead signature.old signature.new brackets literals.items)) }
     ensures longer { IsLonger signature.old signature.new (length tokens.old.bytes) (length tokens.new.bytes) }
+    ensures same { IfOk result (FindsLiterals signature.old signature.new brackets tokens.old.bytes tokens.new.bytes) }
 {
     let mut literals = Literals::new(alloc);
     'literals: loop {
@@ -74,8 +78,9 @@ pub(crate) fn read_literals(
             return Ok(None);
         };
         push(&mut literals, literal)?;
-        if stop == Stop::Other {
-            return Ok(Some(literals));
+        match stop {
+            Stop::Bar => {}
+            Stop::Other => return Ok(Some(literals)),
         }
     }
 }

@@ -2,12 +2,17 @@
 //!
 //! A symbol that the signature has not yet is added. It is a label with a number of arguments, so a name
 //! has its number once its arguments have been counted.
-ghost use Rattle.std.specs.Prelude.{◌≡◌, ◌+◌, ◌-◌, ◌<◌, ◌^◌, [], ◌∷◌, length, IsTrue, IfOk, IfSome};
+ghost use Rattle.std.specs.Prelude.{◌≡◌, ◌+◌, ◌-◌, ◌<◌, ◌^◌, ◌++◌, ℕ, List, [], ◌∷◌, decimal, length, map, Some, IsTrue, IfOk, IfSome};
 ghost use Rattle.std.specs.List.{AllByRecursion};
-ghost use Rattle.me_terms.specs.Labels.{IsFunctionForm};
+ghost use Rattle.me_terms.specs.Labels.{IsFunctionForm, IsFunctionSymbol, IsPredicateSymbol};
+ghost use Rattle.me_terms.specs.Values.{SymbolValue};
+ghost use Rattle.tptp_cnf.specs.Meaning.{with_symbols};
+ghost use Rattle.tptp_tokens.specs.Tokens.{token_value};
+ghost use Rattle.szs_read.specs.Coming.{IfSomeIs, IsAddedAs, renumbered, AreNodesToCome};
+ghost use Rattle.szs_read.specs.LineTokens.{variable_token};
 ghost use Rattle.me_terms.specs.declared.symbol.Form.TheVariants.{Word};
 ghost use Rattle.szs_read.specs.Longer.{IsLonger};
-ghost use Rattle.szs_read.specs.RowItems.{IsItem};
+ghost use Rattle.szs_read.specs.RowItems.{IsItem, item_value, symbol_name, node_name};
 ghost use Rattle.szs_read.specs.Rows.{AreNumbered, IsPredicateAt};
 ghost use Rattle.szs_read.specs.declared.number.Node.TheVariants.{Function};
 
@@ -25,7 +30,9 @@ pub(crate) enum Node {
 }
 
 /// The number of the variable that is written as the token.
-fn variable_of(token: &Token<'_>) -> Option<u32> {
+fn variable_of(token: &Token<'_>) -> Option<u32>
+    ensures { (x : ℕ) → x < 2 ^ 32 → token_value token.now ≡ variable_token x → result ≡ Some x }
+{
     match token.text.split_first() {
         Some((b'X', digits)) => number_of(digits),
         _ => None,
@@ -34,7 +41,8 @@ fn variable_of(token: &Token<'_>) -> Option<u32> {
 
 /// Whether a function with so many arguments may have the label.
 fn is_function_label(label: &Label, arity: u32) -> bool
-    ensures { IsTrue result → IsFunctionForm label.now.form arity }
+    ensures form { IsTrue result → IsFunctionForm label.now.form arity }
+    ensures all { IsFunctionForm label.now.form arity → IsTrue result }
 {
     match label.form {
         Form::Word => true,
@@ -45,7 +53,8 @@ fn is_function_label(label: &Label, arity: u32) -> bool
 
 /// Whether the label is a word.
 fn is_word(label: &Label) -> bool
-    ensures { IsTrue result → label.now.form ≡ Word }
+    ensures form { IsTrue result → label.now.form ≡ Word }
+    ensures all { label.now.form ≡ Word → IsTrue result }
 {
     match label.form {
         Form::Word => true,
@@ -62,6 +71,7 @@ pub(crate) fn number_predicate(
     requires item { IsItem item.now }
     requires room { length signature.old.functions + length signature.old.predicates < 2 ^ 32 - 1 }
     ensures number { IfOk result (λ pred. IfSome pred (λ p. IsPredicateAt signature.old.predicates signature.new.predicates p item.now.arity)) }
+    ensures added { IfOk result (λ read. (symbol : SymbolValue) → IsPredicateSymbol symbol → item_value item.now ≡ symbol_name symbol → IsAddedAs read symbol signature.old.predicates signature.new.predicates) }
     ensures functions { signature.new.functions ≡ signature.old.functions }
     ensures longer { IsLonger signature.old signature.new 1 0 }
 {
@@ -83,6 +93,7 @@ fn number_function(
     requires item { IsItem item.now }
     requires room { length signature.old.functions + length signature.old.predicates < 2 ^ 32 - 1 }
     ensures number { IfOk result (λ number. IfSome number (λ f. AreNumbered signature.old.functions signature.new.functions (Function f item.now.arity ∷ []))) }
+    ensures added { IfOk result (λ read. (symbol : SymbolValue) → IsFunctionSymbol symbol → item_value item.now ≡ symbol_name symbol → IsAddedAs read symbol signature.old.functions signature.new.functions) }
     ensures predicates { signature.new.predicates ≡ signature.old.predicates }
     ensures longer { IsLonger signature.old signature.new 1 0 }
 {
@@ -106,6 +117,7 @@ fn number_item(
     requires item { IsItem item.now }
     requires room { length signature.old.functions + length signature.old.predicates < 2 ^ 32 - 1 }
     ensures number { IfOk result (λ number. IfSome number (λ node. AreNumbered signature.old.functions signature.new.functions (node ∷ []))) }
+    ensures node { IfOk result (λ read. (end others : List SymbolValue) (node : Node) → AreNodesToCome signature.old.functions end (node ∷ []) others → item_value item.now ≡ node_name end node → (read ≡ Some (renumbered end node)) × (end ≡ with_symbols signature.new.functions others)) }
     ensures predicates { signature.new.predicates ≡ signature.old.predicates }
     ensures longer { IsLonger signature.old signature.new 1 0 }
 {
@@ -133,6 +145,7 @@ pub(crate) fn number_items(
     requires items { AllByRecursion IsItem items.now }
     requires room { length signature.old.functions + length signature.old.predicates + length items.now < 2 ^ 32 - 1 }
     ensures numbers { IfOk result (λ numbers. IfSome numbers (λ nodes. AreNumbered signature.old.functions signature.new.functions nodes.items)) }
+    ensures nodes { IfOk result (λ read. (end others : List SymbolValue) (nodes : List Node) → AreNodesToCome signature.old.functions end nodes others → map item_value items.now ≡ map (node_name end) nodes → IfSomeIs read (λ found. found.items ≡ map (renumbered end) nodes) × (end ≡ with_symbols signature.new.functions others)) }
     ensures predicates { signature.new.predicates ≡ signature.old.predicates }
     ensures longer { IsLonger signature.old signature.new (length items.now) 0 }
 {

@@ -1,12 +1,18 @@
 //! Answers and atoms are read from their texts.
-ghost use Rattle.std.specs.Prelude.{◌≡◌, ◌+◌, ◌-◌, ◌≤◌, ◌<◌, ◌^◌, ◌++◌, ℕ, List, codes, length, IfOk, IfSome};
+ghost use Rattle.std.specs.Prelude.{◌≡◌, ◌+◌, ◌-◌, ◌≤◌, ◌<◌, ◌^◌, ◌++◌, ℕ, List, [], ◌∷◌, codes, length, IfOk, IfErr, IfSome, IfNone};
 ghost use Rattle.me_terms.specs.Values.{SignatureValue};
 ghost use Rattle.szs_print.specs.AnswerText.{bound_text};
 ghost use Rattle.szs_print.specs.StatusText.{reason_line};
-ghost use Rattle.szs_read.specs.Answers.{IsAnswer, IsAtomOf};
+ghost use Rattle.me_terms.specs.Terms.{AtomValue};
+ghost use Rattle.me_terms.specs.declared.bounds.Bound.{Bound as BoundValue};
+ghost use Rattle.me_terms.specs.declared.bounds.Start.{Start as StartValue};
+ghost use Rattle.szs_print.specs.Printable.{IsName};
+ghost use Rattle.szs_read.specs.Answers.{IsAnswer, IsErrorCause, IsAtomOf};
 ghost use Rattle.szs_read.specs.ClaimText.{start_line};
 ghost use Rattle.szs_read.specs.Longer.{IsLonger};
+ghost use Rattle.szs_read.specs.Passes.{ArePassed, AreStuck, AreWhole, IsBody, IsSomeAnswer};
 ghost use Rattle.szs_read.specs.Reads.{BeginsBody, BeginsAnswer};
+ghost use Rattle.szs_read.specs.declared.error.AnswerError.TheVariants.{Line};
 
 use crate::claim::{Claim, EntryLines, InstanceLines, MAX_OPEN};
 use crate::entry::read_next_entry;
@@ -30,7 +36,10 @@ fn read_refutation(
 ) -> Result<Option<Claim>, AllocError>
     requires room { length signature.old.functions + length signature.old.predicates + length lines.old.rest.now < 2 ^ 32 - 1 }
     requires lines { lines.old.passed + length lines.old.rest.now < 2 ^ 32 - 1 }
+    requires name { IsName name.now }
     ensures body { IfOk result (λ read. IfSome read (BeginsBody signature.old signature.new (codes "Unsatisfiable") name.now lines.old.rest.now lines.new.rest.now)) }
+    ensures whole { IfOk result (λ read. IfSome read (λ _. AreWhole (IsBody signature.old (codes "Unsatisfiable") name.now) lines.old lines.new)) }
+    ensures stuck { IfOk result (λ read. IfNone read (AreStuck (IsBody signature.old (codes "Unsatisfiable") name.now) lines.old lines.new)) }
     ensures longer { IsLonger signature.old signature.new (length lines.old.rest.now) 0 }
     ensures fewer { lines.new.passed + length lines.new.rest.now ≤ lines.old.passed + length lines.old.rest.now }
 {
@@ -55,6 +64,9 @@ fn read_refutation(
 fn read_start(lines: &mut Lines<'_>) -> Option<Start>
     requires room { lines.old.passed + length lines.old.rest.now < 2 ^ 32 }
     ensures parts { IfSome result (λ start. lines.old.rest.now ≡ start_line start ++ lines.new.rest.now) }
+    ensures passed { IfSome result (λ start. ArePassed lines.old lines.new (start_line start ∷ [])) }
+    ensures none { IfNone result ((start : StartValue) (rest : List ℕ) → lines.old.rest.now ≡ start_line start ++ rest → ⊥) }
+    ensures unchanged { IfNone result (lines.new ≡ lines.old) }
     ensures shorter { length lines.new.rest.now ≤ length lines.old.rest.now }
     ensures fewer { lines.new.passed + length lines.new.rest.now ≤ lines.old.passed + length lines.old.rest.now }
 {
@@ -79,7 +91,10 @@ fn read_model(
 ) -> Result<Option<Claim>, AllocError>
     requires room { length signature.old.functions + length signature.old.predicates + length lines.old.rest.now < 2 ^ 32 - 1 }
     requires lines { lines.old.passed + length lines.old.rest.now < 2 ^ 32 - 1 }
+    requires name { IsName name.now }
     ensures body { IfOk result (λ read. IfSome read (BeginsBody signature.old signature.new (codes "Satisfiable") name.now lines.old.rest.now lines.new.rest.now)) }
+    ensures whole { IfOk result (λ read. IfSome read (λ _. AreWhole (IsBody signature.old (codes "Satisfiable") name.now) lines.old lines.new)) }
+    ensures stuck { IfOk result (λ read. IfNone read (AreStuck (IsBody signature.old (codes "Satisfiable") name.now) lines.old lines.new)) }
     ensures longer { IsLonger signature.old signature.new (length lines.old.rest.now) 0 }
     ensures fewer { lines.new.passed + length lines.new.rest.now ≤ lines.old.passed + length lines.old.rest.now }
 {
@@ -107,7 +122,8 @@ fn read_model(
 
 /// The bound that the line names as the reason for giving up.
 fn bound_of(line: &[u8]) -> Option<Bound>
-    ensures { IfSome result (λ bound. line.now ≡ reason_line (bound_text bound)) }
+    ensures some { IfSome result (λ bound. line.now ≡ reason_line (bound_text bound)) }
+    ensures none { IfNone result ((bound : BoundValue) → line.now ≡ reason_line (bound_text bound) → ⊥) }
 {
     if line == b"% reason depth\n".as_slice() {
         Some(Bound::Depth)
@@ -127,6 +143,8 @@ fn read_bound(lines: &mut Lines<'_>) -> Option<Claim>
     requires room { lines.old.passed + length lines.old.rest.now < 2 ^ 32 }
     ensures shorter { length lines.new.rest.now ≤ length lines.old.rest.now }
     ensures body { IfSome result (λ claim. (signature : SignatureValue) (name : List ℕ) → BeginsBody signature signature (codes "GaveUp") name lines.old.rest.now lines.new.rest.now claim) }
+    ensures whole { IfSome result (λ _. (signature : SignatureValue) (name : List ℕ) → AreWhole (IsBody signature (codes "GaveUp") name) lines.old lines.new) }
+    ensures stuck { IfNone result ((signature : SignatureValue) (name : List ℕ) → AreStuck (IsBody signature (codes "GaveUp") name) lines.old lines.new) }
     ensures fewer { lines.new.passed + length lines.new.rest.now ≤ lines.old.passed + length lines.old.rest.now }
 {
     let line = lines.first()?;
@@ -144,6 +162,8 @@ fn read_claim(
     requires room { length signature.old.functions + length signature.old.predicates + length lines.old.rest.now < 2 ^ 32 - 1 }
     requires lines { lines.old.passed + length lines.old.rest.now < 2 ^ 32 - 1 }
     ensures answer { IfOk result (λ read. IfSome read (BeginsAnswer signature.old signature.new lines.old.rest.now lines.new.rest.now)) }
+    ensures whole { IfOk result (λ read. IfSome read (λ _. AreWhole (IsSomeAnswer signature.old) lines.old lines.new)) }
+    ensures stuck { IfOk result (λ read. IfNone read (AreStuck (IsSomeAnswer signature.old) lines.old lines.new)) }
     ensures longer { IsLonger signature.old signature.new (length lines.old.rest.now) 0 }
     ensures fewer { lines.new.passed + length lines.new.rest.now ≤ lines.old.passed + length lines.old.rest.now }
 {
@@ -162,6 +182,16 @@ fn read_claim(
     Ok(None)
 }
 
+/// No answer goes on with the next line.
+fn refusal(lines: &Lines<'_>) -> AnswerError
+    requires { lines.now.passed < 2 ^ 32 - 1 }
+    ensures { result ≡ Line (lines.now.passed + 1) }
+{
+    AnswerError::Line {
+        line: lines.passed() + 1,
+    }
+}
+
 /// What the answer claims whose text these bytes are, under whatever name. Symbols that the signature has
 /// not yet are added in the order in which they occur first, also where the bytes are refused.
 pub fn read_answer(
@@ -171,14 +201,19 @@ pub fn read_answer(
 ) -> Result<Claim, AnswerError>
     requires { length signature.old.functions + length signature.old.predicates + length bytes.now < 2 ^ 32 - 1 }
     ensures answer { IfOk result (IsAnswer signature.old bytes.now signature.new) }
+    ensures cause { IfErr result (IsErrorCause signature.old bytes.now) }
     ensures longer { IsLonger signature.old signature.new (length bytes.now) 0 }
 {
     let mut lines = Lines::new(bytes);
     match read_claim(alloc, &mut lines, signature)? {
-        Some(claim) if lines.is_at_end() => Ok(claim),
-        _ => Err(AnswerError::Line {
-            line: lines.passed() + 1,
-        }),
+        Some(claim) => {
+            if lines.is_at_end() {
+                Ok(claim)
+            } else {
+                Err(refusal(&lines))
+            }
+        }
+        None => Err(refusal(&lines)),
     }
 }
 
@@ -191,6 +226,7 @@ pub fn read_atom(
 ) -> Result<Option<Atom>, AllocError>
     requires { length signature.old.functions + length signature.old.predicates + length bytes.now < 2 ^ 32 - 1 }
     ensures atom { IfOk result (λ atom. IfSome atom (IsAtomOf signature.old bytes.now signature.new)) }
+    ensures none { IfOk result (λ atom. IfNone atom ((new : SignatureValue) (a : AtomValue) → IsAtomOf signature.old bytes.now new a → ⊥)) }
     ensures longer { IsLonger signature.old signature.new (length bytes.now) 0 }
 {
     let mut tokens = Tokenizer::new(bytes);

@@ -2,10 +2,13 @@
 //!
 //! A literal is read as its names in the order in which they stand, each with the number of its arguments:
 //! the predicate, and then functions and variables. No call goes down into a term, however deep it is.
-ghost use Rattle.std.specs.Prelude.{◌≡◌, ◌+◌, ◌≤◌, ◌<◌, ◌-◌, ◌^◌, ℕ, zero, List, [], length, IfOk, OnOk};
+ghost use Rattle.std.specs.Prelude.{◌≡◌, ◌+◌, ◌≤◌, ◌<◌, ◌-◌, ◌^◌, ℕ, zero, true, List, [], ◌∷◌, drop, length, IfOk, OnOk};
 ghost use Rattle.std.specs.List.{AllByRecursion};
-ghost use Rattle.tptp_tokens.specs.Tokens.{IsToken, token_value};
-ghost use Rattle.szs_read.specs.RowItems.{IsItem};
+ghost use Rattle.me_terms.specs.Values.{SignatureValue};
+ghost use Rattle.me_terms.specs.declared.atom.Literal.{Literal};
+ghost use Rattle.tptp_tokens.specs.Tokens.{TokenValue, IsToken, token_value};
+ghost use Rattle.szs_read.specs.LineTokens.{AreLeft, literal_then, false_token, comma_token};
+ghost use Rattle.szs_read.specs.RowItems.{IsItem, AreNames, literal_names, StopsAt, IsRowOf};
 
 use crate::token::next_token;
 use std::alloc::{AllocError, Global};
@@ -33,22 +36,23 @@ pub(crate) struct Row<'a> {
     pub(crate) positive: bool,
     pub(crate) items: Vec<Item<'a>>,
     /// The places of the names whose arguments are being read, the outermost first.
-    open: Vec<usize>,
+    enclosing: Vec<usize>,
 }
 
 impl<'a> Row<'a> {
-    ghost use Rattle.std.specs.Prelude.{◌≡◌, ◌+◌, ◌≤◌, [], length, OnOk};
+    ghost use Rattle.std.specs.Prelude.{◌≡◌, ◌+◌, ◌≤◌, true, [], length, IfOk, OnOk};
     ghost use Rattle.std.specs.List.{AllByRecursion};
     ghost use Rattle.tptp_tokens.specs.Tokens.{IsToken, token_value};
-    ghost use Rattle.szs_read.specs.RowItems.{IsItem};
+    ghost use Rattle.szs_read.specs.RowItems.{IsItem, row_value, counted_row, with_name, with_open, IsTaken};
 
     fn new(alloc: Global) -> Self
-        ensures { result.items.items ≡ [] }
+        ensures items { result.items.items ≡ [] }
+        ensures value { row_value result ≡ record { positive = true; names = []; enclosing = [] } }
     {
         Row {
             positive: true,
             items: Vec::new(alloc),
-            open: Vec::new(alloc),
+            enclosing: Vec::new(alloc),
         }
     }
 
@@ -57,8 +61,9 @@ impl<'a> Row<'a> {
         requires { AllByRecursion IsItem self.old.items.items }
         ensures items { AllByRecursion IsItem self.new.items.items }
         ensures count { length self.new.items.items ≡ length self.old.items.items }
+        ensures value { row_value self.new ≡ counted_row (row_value self.old) }
     {
-        if let Some(place) = self.open.last() {
+        if let Some(place) = self.enclosing.last() {
             let place = *place;
             if place < self.items.len() {
                 self.items[place].arity = self.items[place].arity.saturating_add(1);
@@ -72,6 +77,7 @@ impl<'a> Row<'a> {
         requires name { IsToken (token_value name) }
         ensures items { OnOk result (AllByRecursion IsItem self.new.items.items) }
         ensures count { OnOk result (length self.new.items.items ≤ length self.old.items.items + 1) }
+        ensures value { OnOk result (row_value self.new ≡ with_name (row_value self.old) (token_value name.entry)) }
     {
         self.count_argument();
         self.items.push(Item { name, arity: 0 })?;
@@ -80,9 +86,10 @@ impl<'a> Row<'a> {
 
     /// The arguments of the last name come next.
     fn open(&mut self) -> Result<(), AllocError>
-        ensures { OnOk result (self.new.items ≡ self.old.items) }
+        ensures items { OnOk result (self.new.items ≡ self.old.items) }
+        ensures value { OnOk result (row_value self.new ≡ with_open (row_value self.old)) }
     {
-        self.open.push(self.items.len().saturating_sub(1))?;
+        self.enclosing.push(self.items.len().saturating_sub(1))?;
         Ok(())
     }
 
@@ -92,6 +99,7 @@ impl<'a> Row<'a> {
         requires token { IsToken (token_value token.now) }
         ensures items { OnOk result (AllByRecursion IsItem self.new.items.items) }
         ensures count { OnOk result (length self.new.items.items ≤ length self.old.items.items + 1) }
+        ensures value { IfOk result (IsTaken (row_value self.old) (token_value token.now) (row_value self.new)) }
     {
         match token.kind {
             TokenKind::Tilde => self.positive = false,
@@ -100,10 +108,10 @@ impl<'a> Row<'a> {
             | TokenKind::Distinct
             | TokenKind::Variable => self.push(*token)?,
             TokenKind::OpenRound => self.open()?,
-            TokenKind::CloseRound if !self.open.is_empty() => {
-                self.open.pop();
+            TokenKind::CloseRound if !self.enclosing.is_empty() => {
+                self.enclosing.pop();
             }
-            TokenKind::Comma if !self.open.is_empty() => {}
+            TokenKind::Comma if !self.enclosing.is_empty() => {}
             TokenKind::DollarWord => {}
             TokenKind::Bar => return Ok(Some(Stop::Bar)),
             _ => return Ok(Some(Stop::Other)),
@@ -120,6 +128,8 @@ pub(crate) fn read_row<'a>(
     ensures items { IfOk result (λ read. AllByRecursion IsItem read.0.items.items) }
     ensures count { IfOk result (λ read. length read.0.items.items + length tokens.new.bytes ≤ length tokens.old.bytes) }
     ensures shorter { length tokens.new.bytes ≤ length tokens.old.bytes }
+    ensures literal { IfOk result (λ read. (s : SignatureValue) (l : Literal) (rest : List TokenValue) (stop : Stop) → length tokens.old.bytes < 2 ^ 32 → AreNames (literal_names s l) → StopsAt rest stop → AreLeft tokens.old.bytes (literal_then s l rest) → IsRowOf s l read.0 × (read.1 ≡ stop) × AreLeft tokens.new.bytes (drop 1 rest)) }
+    ensures falsity { IfOk result (λ read. (rest : List TokenValue) → AreLeft tokens.old.bytes (false_token ∷ comma_token ∷ rest) → (read.0.items.items ≡ []) × AreLeft tokens.new.bytes rest) }
 {
     let mut row = Row::new(alloc);
     'tokens: while let Some(token) = next_token(tokens) {

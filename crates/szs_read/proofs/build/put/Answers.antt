@@ -7,8 +7,8 @@ use Rattle.szs_read.specs.declared.number.Node.{Node}
 use Rattle.szs_read.proofs.Nodes.{put_function, seen_length}
 use Rattle.szs_read.proofs.build.put.Goals as goal
 
-pub returns-in_ok-push-in-Function : goal.returns-in_ok-push-in-Function
-returns-in_ok-push-in-Function c = λ _.
+pub returns-in_ok-push-in-Function-clause-nodes : goal.returns-in_ok-push-in-Function-clause-nodes
+returns-in_ok-push-in-Function-clause-nodes c = λ _.
     let f = c.in-Function.f in
     let n = c.in-Function.arity in
     let before : List TermValue = map term_value (reverse c.args.stack.now.items) in

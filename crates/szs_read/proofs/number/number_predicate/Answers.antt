@@ -7,5 +7,5 @@ use Rattle.szs_read.proofs.number.number_predicate.Goals as goal
 pub returns-in_ok-add_pred-in-Some-clause-number : goal.returns-in_ok-add_pred-in-Some-clause-number
 returns-in_ok-add_pred-in-Some-clause-number c =
     predicate_numbered _ _ (record { label = c.in-Some.label; arity = c.args.item.now.arity }) _ _
-    (if_some _ _ _ c.in-Some.is c.in_ok-label.ensures, c.is_word.ensures c.if-is_word.true)
+    (if_some _ _ _ c.in-Some.is c.in_ok-label.ensures.readable, c.is_word.ensures.form c.if-is_word.true)
     refl (ap (λ (v : SignatureValue). v.predicates) c.in_ok-add_pred-in-Some.ensures.added) c.in_ok-add_pred-in-Some.ensures.number
