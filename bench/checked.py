@@ -118,11 +118,13 @@ def said_of(checker, *parts):
 
 def difference(program, checker, words, text):
     """The word of the answer, and what is wrong with what is said of it, or None."""
+    # (a file that ends too early is refused at its end, so both read the line feed before the mark)
+    text += b"\n"
     answer = subprocess.run([program, *words], input=text, capture_output=True, timeout=SECONDS)
     word = answer.stdout.split()[3].decode() if answer.stdout.startswith(b"% SZS status ") else ""
     # (the checker refuses a problem as the program does, under the name of standard input)
     due = DUE.get(word) or (answer.returncode, answer.stdout)
-    said, _ = said_of(checker, text, MARK, answer.stdout)
+    said, _ = said_of(checker, text, MARK[1:], answer.stdout)
     return word, None if said == due else f"{due[1]!r} and {due[0]} are due, found {said[1][:200]!r} and {said[0]}"
 
 
