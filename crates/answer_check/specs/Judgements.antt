@@ -16,7 +16,7 @@ use Rattle.me_terms.specs.declared.entry.Kind.TheVariants as kind
 use Rattle.ground_solver.specs.Assignments.{IsUnsatisfiable, IsModel}
 use Rattle.ground_solver.specs.Named.{literal_count}
 use Rattle.szs_read.specs.Values.{InstanceLineValue}
-use Rattle.szs_read.specs.Answers.{IsAnswer}
+use Rattle.szs_read.specs.Answers.{IsAnswer, IsRefusedAt}
 use Rattle.szs_read.specs.declared.claim.EntryLine.{EntryLine}
 use Rattle.szs_read.specs.declared.claim.Claim.{Claim}
 use Rattle.szs_read.specs.declared.claim.Claim.TheVariants as claim
@@ -145,9 +145,9 @@ pub record IsReadAndJudged (problem : ProblemValue) (bytes : List ℕ) (signatur
   pub answer : IsAnswer problem.signature bytes signature claim
   pub judged : IsClaimJudged problem claim verdict
 
--- What is said of the bytes. The signature is the problem's own, with the symbols that are new in the answer. Of bytes that were not read as an answer nothing is said here: why, `read_answer` does not promise yet.
+-- What is said of the bytes. The signature is the problem's own, with the symbols that are new in the answer.
 abbrev pub IsJudged : ProblemValue → List ℕ → SignatureValue → Verdict → Type 0
-IsJudged problem bytes signature (Unread line) = Unit {0}
+IsJudged problem bytes signature (Unread line) = IsRefusedAt problem.signature bytes line
 IsJudged problem bytes signature Refutation = IsReadAndJudged problem bytes signature Refutation
 IsJudged problem bytes signature Model = IsReadAndJudged problem bytes signature Model
 IsJudged problem bytes signature (WrongLine line) = IsReadAndJudged problem bytes signature (WrongLine line)
