@@ -1,0 +1,6 @@
+pub mod Files
+pub mod Flat
+pub mod Outcomes
+pub mod Views
+pub mod Bundles
+pub mod BundleViews
