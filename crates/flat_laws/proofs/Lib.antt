@@ -1,0 +1,4 @@
+mod Feeds
+mod Slices
+mod Limiting
+pub mod Filing
