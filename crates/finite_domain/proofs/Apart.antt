@@ -32,9 +32,9 @@ same_rest x xs ys e = cc
 element_apart : (i k : ℕ) → i < k → k < 2 ^ 64 → same_symbol (element k) (element i) ≡ false
 element_apart i k less small =
     false_by (same_symbol (element k) (element i)) (λ h.
-        let e : decimal k ≡ decimal i = same_rest 100 (decimal k) (decimal i) (same_text (element k) (element i) h) in
-        let same : k ≡ i = decimal_injective k i small (omega arith) e in
-        omega arith)
+    let e : decimal k ≡ decimal i = same_rest 100 (decimal k) (decimal i) (same_text (element k) (element i) h) in
+    let same : k ≡ i = decimal_injective k i small (omega arith) e in
+    omega arith)
 
 elements_apart : (a n k : ℕ) → a + n ≤ k → k < 2 ^ 64 → list_any (same_symbol (element k)) (map element (range_with_len a n)) ≡ false
 elements_apart a zero k past small = refl
@@ -58,9 +58,9 @@ next_element n small = added (elements n) (element (n + 1)) (elements_apart 1 n 
 relation_apart : (i k m n : ℕ) → i < k → k < 2 ^ 64 → same_symbol (relation k m) (relation i n) ≡ false
 relation_apart i k m n less small =
     false_by (same_symbol (relation k m) (relation i n)) (λ h.
-        let e : decimal k ≡ decimal i = same_rest 102 (decimal k) (decimal i) (same_text (relation k m) (relation i n) h) in
-        let same : k ≡ i = decimal_injective k i small (omega arith) e in
-        omega arith)
+    let e : decimal k ≡ decimal i = same_rest 102 (decimal k) (decimal i) (same_text (relation k m) (relation i n) h) in
+    let same : k ≡ i = decimal_injective k i small (omega arith) e in
+    omega arith)
 
 relations_apart : (j k m : ℕ) (fs : List SymbolValue) → j + length fs ≤ k → k < 2 ^ 64 → list_any (same_symbol (relation k m)) (relations_from j fs) ≡ false
 relations_apart j k m [] past small = refl
@@ -84,8 +84,8 @@ relations_length j (f ∷ fs) = omega (arith, relations_length (j + 1) fs)
 copy_no_relation : (ps : List SymbolValue) (p j m : ℕ) → same_symbol (copy_of ps p) (relation j m) ≡ false
 copy_no_relation ps p j m =
     false_by (same_symbol (copy_of ps p) (relation j m)) (λ h.
-        let e : 113 ≡ 102 = ap (λ (xs : List ℕ). get_or xs 0 0) (same_text (copy_of ps p) (relation j m) h) in
-        omega arith)
+    let e : 113 ≡ 102 = ap (λ (xs : List ℕ). get_or xs 0 0) (same_text (copy_of ps p) (relation j m) h) in
+    omega arith)
 
 copy_no_relations : (ps : List SymbolValue) (p j : ℕ) (fs : List SymbolValue) → list_any (same_symbol (copy_of ps p)) (relations_from j fs) ≡ false
 copy_no_relations ps p j [] = refl
@@ -110,9 +110,9 @@ apart_before (z ∷ xs) ys x h =
 copy_apart : (ps : List SymbolValue) (p q : ℕ) → eqb p q ≡ false → p < 2 ^ 64 → q < 2 ^ 64 → same_symbol (copy_of ps p) (copy_of ps q) ≡ false
 copy_apart ps p q differ small other =
     false_by (same_symbol (copy_of ps p) (copy_of ps q)) (λ h.
-        let e : decimal p ≡ decimal q = same_rest 113 (decimal p) (decimal q) (same_text (copy_of ps p) (copy_of ps q) h) in
-        let same : p ≡ q = decimal_injective p q small other e in
-        grind (arith, common_steps))
+    let e : decimal p ≡ decimal q = same_rest 113 (decimal p) (decimal q) (same_text (copy_of ps p) (copy_of ps q) h) in
+    let same : p ≡ q = decimal_injective p q small other e in
+    grind (arith, common_steps))
 
 parts_false : (a b : Bool) → (a || b) ≡ false → (a ≡ false) × (b ≡ false)
 parts_false true b h = absurd cc

@@ -61,7 +61,6 @@ over f (inr b) = inr (f b)
 module _ {X : Type 0} (eq : X → X → Bool) (sound : (x y : X) → eq x y ≡ true → x ≡ y) (self : (x : X) → eq x x ≡ true)
     (first : List X → List X → List X) (stop : (seen : List X) → first seen [] ≡ seen)
     (go : (seen : List X) (x : X) (xs : List X) → first seen (x ∷ xs) ≡ cond (list_any (eq x) seen) (first seen xs) (first (seen ++ x ∷ []) xs)) where
-
   noted_by : (p x : X) (seen xs : List X) (test : Bool) → list_any (eq x) seen ≡ test
       → ((s : List X) → (list_any (eq p) s ≡ true) ⊎ (list_any (eq p) xs ≡ true) → list_any (eq p) (first s xs) ≡ true)
       → (list_any (eq p) seen ≡ true) ⊎ ((p ≡ x) ⊎ (list_any (eq p) xs ≡ true))

@@ -43,10 +43,10 @@ pub term_made : (names : List TermValue) (t v : TermValue) (xs : List Term) (ite
     → (record { positive = false; atom = record { pred = pred; args = arguments_of next } }) ≡ term_literal names t
 term_made names t v xs items next pred inside made pushed value symbol =
     let all : next ≡ map (variable_of names) (with_value t) =
-        pushed
-        ∙ ap (λ (w : List TermValue). w ++ v ∷ []) (made ∙ mapped_twice names xs ∙ ap (map (variable_of names)) (list_is xs (arguments_in t) inside))
-        ∙ ap (λ (w : TermValue). map (variable_of names) (list_of (arguments_in t)) ++ w ∷ []) value
-        ∙ sym (map-append (variable_of names) (list_of (arguments_in t)) (t ∷ [])) in
+    pushed
+    ∙ ap (λ (w : List TermValue). w ++ v ∷ []) (made ∙ mapped_twice names xs ∙ ap (map (variable_of names)) (list_is xs (arguments_in t) inside))
+    ∙ ap (λ (w : TermValue). map (variable_of names) (list_of (arguments_in t)) ++ w ∷ []) value
+    ∙ sym (map-append (variable_of names) (list_of (arguments_in t)) (t ∷ [])) in
     λ i. record { positive = false; atom = record { pred = symbol i; args = arguments_of (all i) } }
 
 pub own_made : (relations : ℕ) (order : List ℕ) (names : List TermValue) (inside : List TermValue) (pred : ℕ) (xs : List Term) (items : List TermValue) (place : ℕ) → map term_value xs ≡ inside
@@ -195,7 +195,7 @@ flat_made problem n start clauses signature begun added functions predicates =
     let lists = lists_of count (order_of problem.clauses) problem.clauses in
     let totals = totalities_from n 0 problem.signature.functions in
     let all : clauses ≡ numbered_from 1 (flat_lists problem n) =
-        added
-        ∙ ap (λ (v : List ClauseValue). v ++ numbered_from (count + 1) lists) begun
-        ∙ sym (numbered_append 1 (count + 1) totals lists (omega (arith, totalities_length n 0 problem.signature.functions))) in
+    added
+    ∙ ap (λ (v : List ClauseValue). v ++ numbered_from (count + 1) lists) begun
+    ∙ sym (numbered_append 1 (count + 1) totals lists (omega (arith, totalities_length n 0 problem.signature.functions))) in
     λ i. record { clauses = all i; signature = record { functions = functions i; predicates = predicates i }; c0 = 0 }

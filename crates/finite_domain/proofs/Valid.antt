@@ -265,10 +265,10 @@ flat_numbered relations order ls =
     let all = flat_map with_value terms ++ flat_map own_arguments ls in
     let names = named_terms terms ls in
     let e : clause_variables (flat_literals relations order ls) ≡ map (place names) all =
-        flat_map-append variables_in (map (term_literal names) terms) (map (own_literal relations order names) ls)
-        ∙ ap (λ (v : List ℕ). v ++ flat_map variables_in (map (own_literal relations order names) ls)) (term_variables_are names terms)
-        ∙ ap (λ (v : List ℕ). map (place names) (flat_map with_value terms) ++ v) (own_variables_are relations order names ls)
-        ∙ sym (map-append (place names) (flat_map with_value terms) (flat_map own_arguments ls)) in
+    flat_map-append variables_in (map (term_literal names) terms) (map (own_literal relations order names) ls)
+    ∙ ap (λ (v : List ℕ). v ++ flat_map variables_in (map (own_literal relations order names) ls)) (term_variables_are names terms)
+    ∙ ap (λ (v : List ℕ). map (place names) (flat_map with_value terms) ++ v) (own_variables_are relations order names ls)
+    ∙ sym (map-append (place names) (flat_map with_value terms) (flat_map own_arguments ls)) in
     ap (is_numbered_from 0) e ∙ names_numbered names [] all refl
 
 range_variables : (xs : List ℕ) (k : ℕ) → variables_of (arguments_of (map Var xs ++ App k Nil ∷ [])) ≡ xs
@@ -383,10 +383,10 @@ module _ (problem : ProblemValue) (n : ℕ) where
   totality_known j f a (suc m) h within =
       let args = map Var (range_with_len 0 f.arity) ++ App a Nil ∷ [] in
       let size : count (arguments_of args) ≡ f.arity + 1 =
-          counted args ∙ length-append (map Var (range_with_len 0 f.arity)) (App a Nil ∷ [])
-          ∙ ap (λ (v : ℕ). v + 1) (mapped_length Var (range_with_len 0 f.arity) ∙ range_length 0 f.arity) in
+      counted args ∙ length-append (map Var (range_with_len 0 f.arity)) (App a Nil ∷ [])
+      ∙ ap (λ (v : ℕ). v + 1) (mapped_length Var (range_with_len 0 f.arity) ∙ range_length 0 f.arity) in
       let here : takes (slice_get new.predicates j) (count (arguments_of args)) ≡ true =
-          takes_by (slice_get new.predicates j) (relation (0 + j) f.arity) (count (arguments_of args)) (relations_at 0 j fs f (map (copy_of ps) order) h) (sym size) in
+      takes_by (slice_get new.predicates j) (relation (0 + j) f.arity) (count (arguments_of args)) (relations_at 0 j fs f (map (copy_of ps) order) h) (sym size) in
       let value : takes (slice_get (elements n) a) 0 ≡ true = element_takes 1 n a (omega arith) in
       both_true (is_known_atom new (value_literal j f.arity a).atom) (list_all (λ (l : Literal). is_known_atom new l.atom) (map (value_literal j f.arity) (range_with_len (a + 1) m)))
       (both_true (takes (slice_get new.predicates j) (count (arguments_of args))) (are_known new (arguments_of args)) here (value_known new (range_with_len 0 f.arity) a value))
@@ -414,7 +414,7 @@ module _ (problem : ProblemValue) (n : ℕ) where
       let g = taken (slice_get fs f) (count ts) parts.0 in
       let args = map (variable_of names) (with_value (App f ts)) in
       let size : count (arguments_of args) ≡ count ts + 1 =
-          counted args ∙ mapped_length (variable_of names) (with_value (App f ts)) ∙ length-append (list_of ts) (App f ts ∷ []) ∙ ap (λ (v : ℕ). v + 1) (list_length ts) in
+      counted args ∙ mapped_length (variable_of names) (with_value (App f ts)) ∙ length-append (list_of ts) (App f ts ∷ []) ∙ ap (λ (v : ℕ). v + 1) (list_length ts) in
       both_true (takes (slice_get new.predicates f) (count (arguments_of args))) (are_known new (arguments_of args))
       (takes_by (slice_get new.predicates f) (relation (0 + f) (g.0).arity) (count (arguments_of args)) (relations_at 0 f fs g.0 (map (copy_of ps) order) g.1) (ap (λ (v : ℕ). v + 1) g.2 ∙ sym size))
       (all_variables_known new names (with_value (App f ts)))
@@ -434,9 +434,9 @@ module _ (problem : ProblemValue) (n : ℕ) where
       let args = map (variable_of names) (list_of l.atom.args) in
       let size : count (arguments_of args) ≡ count l.atom.args = counted args ∙ mapped_length (variable_of names) (list_of l.atom.args) ∙ list_length l.atom.args in
       let at : slice_get new.predicates (length fs + place_of l.atom.pred order) ≡ Some (copy_of ps l.atom.pred) =
-          behind (relations_from 0 fs) (map (copy_of ps) order) (place_of l.atom.pred order) (length fs) (relations_length 0 fs)
-          ∙ slice_get-map (copy_of ps) order (place_of l.atom.pred order)
-          ∙ ap (λ (o : Option ℕ). option_map (copy_of ps) o) (at_place l.atom.pred order there) in
+      behind (relations_from 0 fs) (map (copy_of ps) order) (place_of l.atom.pred order) (length fs) (relations_length 0 fs)
+      ∙ slice_get-map (copy_of ps) order (place_of l.atom.pred order)
+      ∙ ap (λ (o : Option ℕ). option_map (copy_of ps) o) (at_place l.atom.pred order there) in
       let arity : arity_of (slice_get ps l.atom.pred) ≡ count l.atom.args = ap arity_of g.1 ∙ g.2 in
       both_true (takes (slice_get new.predicates (length fs + place_of l.atom.pred order)) (count (arguments_of args))) (are_known new (arguments_of args))
       (takes_by (slice_get new.predicates (length fs + place_of l.atom.pred order)) (copy_of ps l.atom.pred) (count (arguments_of args)) at (arity ∙ sym size))
@@ -483,9 +483,9 @@ module _ (problem : ProblemValue) (n : ℕ) where
       let valid : AllByRecursion (IsValidClause problem.signature) problem.clauses = by_recursion (IsValidClause problem.signature) problem.clauses h.clauses in
       let light : AllByRecursion (λ (c : ClauseValue). literals_weight c.literals < 2 ^ 31) problem.clauses = by_recursion (λ (c : ClauseValue). literals_weight c.literals < 2 ^ 31) problem.clauses small.weights in
       let good : AllByRecursion (IsGood new) lists =
-          both (IsGood new) (totalities_from n 0 fs) (map per problem.clauses) (totalities_good 0 fs most (λ i f is. let e : 0 + i ≡ i = omega arith in ap (λ (v : ℕ). slice_get fs v) e ∙ is)) (clauses_good problem.clauses valid light (numbers_stand (all_preds problem.clauses))) in
+      both (IsGood new) (totalities_from n 0 fs) (map per problem.clauses) (totalities_good 0 fs most (λ i f is. let e : 0 + i ≡ i = omega arith in ap (λ (v : ℕ). slice_get fs v) e ∙ is)) (clauses_good problem.clauses valid light (numbers_stand (all_preds problem.clauses))) in
       let size : length lists ≡ length fs + length problem.clauses =
-          length-append (totalities_from n 0 fs) (map per problem.clauses) ∙ ap (λ (v : ℕ). v + length (map per problem.clauses)) (totalities_length n 0 fs) ∙ ap (λ (v : ℕ). length fs + v) (mapped_length per problem.clauses) in
+      length-append (totalities_from n 0 fs) (map per problem.clauses) ∙ ap (λ (v : ℕ). v + length (map per problem.clauses)) (totalities_length n 0 fs) ∙ ap (λ (v : ℕ). length fs + v) (mapped_length per problem.clauses) in
       let known : AllByRecursion (λ (q : ℕ). q < 2 ^ 64) order = weaker (λ (q : ℕ). q < length ps) (λ (q : ℕ). q < 2 ^ 64) order (λ q less. omega (arith, less, small.predicates)) (order_known problem h) in
       record {
         clauses = all_of_them (IsValidClause new) (numbered_from 1 lists) (good_clauses new 1 lists (omega (arith, size, small.functions, small.clauses)) good);

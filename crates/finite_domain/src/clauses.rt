@@ -13,11 +13,7 @@ use me_terms::{Clause, Clauses, Literals, Signature};
 use std::alloc::{AllocError, Global};
 
 /// Puts a clause at the end, with the next number.
-fn push_clause(
-    alloc: Global,
-    clauses: &mut Clauses,
-    literals: Literals,
-) -> Result<(), AllocError>
+fn push_clause(alloc: Global, clauses: &mut Clauses, literals: Literals) -> Result<(), AllocError>
     requires { length clauses.old.items < 2 ^ 32 - 1 }
     ensures { OnOk result (clauses.new.items ≡ clauses.old.items ++ flat.labelled (length clauses.old.items + 1) literals.items ∷ []) }
 {

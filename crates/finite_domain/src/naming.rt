@@ -25,10 +25,7 @@ fn note<'a>(found: &mut IndexSet<Subterm<'a>>, term: &'a Term) -> Result<(), All
 }
 
 /// Puts those of the terms at the end that do not stand among them yet.
-fn note_all<'a>(
-    found: &mut IndexSet<Subterm<'a>>,
-    terms: &'a [Term],
-) -> Result<(), AllocError>
+fn note_all<'a>(found: &mut IndexSet<Subterm<'a>>, terms: &'a [Term]) -> Result<(), AllocError>
     ensures { OnOk result (found.new.keys ≡ naming.first_terms found.old.keys (map term_value terms.now)) }
 {
     'terms: for term in terms {
@@ -52,10 +49,7 @@ fn walk<'a>(found: &mut IndexSet<Subterm<'a>>, term: &'a Term) -> Result<(), All
 }
 
 #[cycle(walk)]
-fn walk_all<'a>(
-    found: &mut IndexSet<Subterm<'a>>,
-    terms: &'a [Term],
-) -> Result<(), AllocError>
+fn walk_all<'a>(found: &mut IndexSet<Subterm<'a>>, terms: &'a [Term]) -> Result<(), AllocError>
     ensures { OnOk result (found.new.keys ≡ naming.first_terms found.old.keys (naming.applied_in_all (arguments_of (map term_value terms.now)))) }
 {
     'terms: for term in terms {

@@ -12,10 +12,10 @@ pub terms-preserved : goal.terms-preserved
 terms-preserved c =
     let t : TermValue = c.subterm-item.result in
     let rest = here c.as_slice-subterm-items.result.now c.terms.subterm-index t c.terms-test.true c.subterm-item.is in
-    let is = c.term.ensures in
+    let is = c.term-term.ensures in
     let args = list_is c.arguments.result.now (arguments_in t) (c.arguments.ensures ∙ ap arguments_in is) in
     let first : c.note_all.new.found.keys ≡ first_terms c.terms.names.keys (list_of (arguments_in t)) = c.in_ok-note_all.ensures ∙ ap (first_terms c.terms.names.keys) args in
     let second : c.note.new.found.keys ≡ first_terms (first_terms c.terms.names.keys (list_of (arguments_in t))) (t ∷ []) =
-        c.in_ok-note.ensures ∙ ap (λ (v : TermValue). first_terms c.note_all.new.found.keys (v ∷ [])) is ∙ ap (λ (v : List TermValue). first_terms v (t ∷ [])) first in
+    c.in_ok-note.ensures ∙ ap (λ (v : TermValue). first_terms c.note_all.new.found.keys (v ∷ [])) is ∙ ap (λ (v : List TermValue). first_terms v (t ∷ [])) first in
     found_more c.terms.names.keys c.note.new.found.keys _ (with_value t) _ _ (ap (λ (ts : List TermValue). flat_map with_value ts) rest)
     (second ∙ sym (first_append c.terms.names.keys (list_of (arguments_in t)) (t ∷ []))) c.terms.invariant
