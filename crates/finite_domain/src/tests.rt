@@ -75,15 +75,16 @@ fn are_same_symbols(a: &Signature, b: &Signature) -> bool {
     true
 }
 
+fn is_same_clause(a: &Clause, b: &Clause) -> bool {
+    a.number == b.number && a.label == b.label && a.literals == b.literals
+}
+
 fn are_same_clauses(a: &[Clause], b: &[Clause]) -> bool {
     if a.len() != b.len() {
         return false;
     }
     for k in 0..a.len().min(b.len()) {
-        if a[k].number != b[k].number
-            || a[k].label != b[k].label
-            || a[k].literals != b[k].literals
-        {
+        if !is_same_clause(&a[k], &b[k]) {
             return false;
         }
     }
