@@ -328,7 +328,13 @@ fn other_words_are_refused(rt: HostRuntime) -> Result<(), Fail> {
     let alloc = rt.alloc();
     for count in 0..2_u32 {
         let (status, text) = written(alloc, 2 * count, b"")?;
-        assert_eq!(rt; (status, text.as_slice()), (1, b"% SZS status UsageError for stdin\n% reason words\n".as_slice()));
+        assert_eq!(rt;
+            (status, text.as_slice()),
+            (
+                1,
+                b"% SZS status UsageError for stdin\n% reason words\n".as_slice()
+            )
+        );
     }
     Ok(())
 }
